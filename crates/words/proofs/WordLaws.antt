@@ -1,0 +1,39 @@
+-- A word and its parts, there and back.
+use Prim.Native.Nat.{ℕ, _+_, _*_, _/_, _%_, _^_, _<_}
+use mathlib.Core.Path.{_≡_, refl, sym, ap, _∙_}
+use mathlib.Core.Bool.{Bool, true, false, cond, _&&_}
+use borrow.Author.Needs.{needs}
+use Rattle.std.specs.declared.result.Result.{Result}
+use Rattle.std.specs.declared.result.Result.the-variants.{Ok, Err}
+use Rattle.words.specs.declared.fault.Spot.{Spot}
+use Rattle.words.specs.declared.word.Header.{Header}
+use Rattle.words.specs.declared.word.Datum.{Datum}
+use Rattle.words.specs.declared.word.End.{End}
+use Rattle.words.specs.declared.word.First.{First}
+use Rattle.words.specs.declared.word.First.the-variants as first
+use Rattle.words.specs.declared.word.Reading.{Reading}
+use Rattle.words.specs.Events.{header-word, datum-word, end-word}
+use Rattle.words.specs.Words.{bits, kind-of, geo-of, read-first, read-datum, read-end, First-is, datum-fits, end-fits}
+
+-- a header's word is read as the header
+pub header-again : (g k n : ℕ) (s : Spot) → g < 32 → k < 256 → n < 64
+    → read-first (header-word g k n) s ≡ Ok (first.Header (record { geo = g; «crate_number» = k; readings = n }))
+header-again g k n s p q r = search needs
+
+-- a datum's word is read as the datum
+pub datum-again : (g : ℕ) (r : Reading) (s : Spot) → g < 32 → r .tag < 32 → r .count < 2 ^ 12 → read-datum (datum-word g r) s ≡ Ok (record { geo = g; reading = r })
+datum-again g r s p q l = search needs
+
+-- an end's word is read as the end
+pub end-again : (g n : ℕ) (s : Spot) → g < 32 → n < 2 ^ 24 → read-end (end-word g n) s ≡ Ok (record { geo = g; number = n })
+end-again g n s p q = search needs
+
+-- what is read is spelt by the word
+pub first-only : (w : ℕ) (s : Spot) (x : First) → w < 2 ^ 32 → read-first w s ≡ Ok x → First-is w x
+first-only w s x h e = search needs
+
+pub datum-only : (w : ℕ) (s : Spot) (d : Datum) → w < 2 ^ 32 → read-datum w s ≡ Ok d → (datum-fits d ≡ true) × (w ≡ datum-word (d .geo) (d .reading))
+datum-only w s d h e = search needs
+
+pub end-only : (w : ℕ) (s : Spot) (d : End) → w < 2 ^ 32 → read-end w s ≡ Ok d → (end-fits d ≡ true) × (w ≡ end-word (d .geo) (d .number))
+end-only w s d h e = search needs
