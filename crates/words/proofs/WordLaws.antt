@@ -13,7 +13,7 @@ use Rattle.words.specs.declared.word.First.{First}
 use Rattle.words.specs.declared.word.First.the-variants as first
 use Rattle.words.specs.declared.word.Reading.{Reading}
 use Rattle.words.specs.Events.{header-word, datum-word, end-word}
-use Rattle.words.specs.Words.{bits, kind-of, geo-of, read-first, read-datum, read-end, First-is, datum-fits, end-fits}
+use Rattle.words.specs.Words.{bits, kind-of, geo-of, reading-of, read-first, read-datum, read-end, First-is, datum-fits, end-fits}
 
 -- a header's word is read as the header
 pub header-again : (g k n : ℕ) (s : Spot) → g < 32 → k < 256 → n < 64
@@ -37,3 +37,15 @@ datum-only w s d h e = search needs
 
 pub end-only : (w : ℕ) (s : Spot) (d : End) → w < 2 ^ 32 → read-end w s ≡ Ok d → (end-fits d ≡ true) × (w ≡ end-word (d .geo) (d .number))
 end-only w s d h e = search needs
+
+-- a datum's word holds the reading
+pub reading-again : (g : ℕ) (r : Reading) → g < 32 → r .tag < 32 → r .count < 2 ^ 12 → reading-of (datum-word g r) ≡ r
+reading-again g r p q l = search needs
+
+-- a crate that is read fits its bits
+abbrev pub Crate-fits : First → Type 0
+Crate-fits (first.Header h) = h .«crate_number» < 256
+Crate-fits first.Filler = Unit {0}
+
+pub first-crate : (w : ℕ) (s : Spot) (x : First) → read-first w s ≡ Ok x → Crate-fits x
+first-crate w s x e = search needs

@@ -1,0 +1,7 @@
+pub mod Accepting
+pub mod Exactly
+pub mod Inverting
+pub mod Packs
+pub mod SeenLaws
+pub mod Steps
+pub mod TagBits
