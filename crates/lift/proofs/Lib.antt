@@ -1,0 +1,2 @@
+pub mod LiftLaws
+pub mod Tags
