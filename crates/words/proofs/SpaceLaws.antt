@@ -2,9 +2,10 @@
 use Prim.Native.Nat.{ℕ, _+_, _≤_}
 use mathlib.Core.Path.{_≡_, refl, sym, ap, _∙_}
 use mathlib.Core.List.{List, _++_}
+use native.Mathlib.Omega.{arith}
 use lib.ListN.{length, take, drop}
 use borrow.Rule.Slice.PartMut.{putMid}
-use Rattle.std.proofs.shelf.Lists.{append-assoc, length-append, take-at, drop-at, drop-drop}
+use Rattle.std.proofs.shelf.Lists.{append-assoc, length-append, length-drop, take-at, drop-at, drop-drop}
 use Rattle.words.specs.Spaces.{onto}
 
 -- ys written behind xs
@@ -15,3 +16,8 @@ onto-more xs ys d at k p q =
     ap (λ t. t ++ (ys ++ drop k (drop at (onto xs d)))) (take-at xs (drop (length xs) d) at p)
     ∙ ap (λ t. xs ++ (ys ++ t)) rest
     ∙ sym (append-assoc xs ys (drop (length (xs ++ ys)) d))
+
+-- what was written lies within the space
+pub onto-within : {A : Type 0} (xs d after : List A) (n : ℕ) → n ≡ length xs → after ≡ onto xs d → length after ≡ length d → n ≤ length after
+onto-within xs d after n h e same =
+    omega (arith, ap length e, length-append xs (drop (length xs) d), length-drop (length xs) d)

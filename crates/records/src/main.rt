@@ -1,0 +1,87 @@
+//! `records [time]`: words of a charge board, or of a time board, from standard input; records to standard output.
+
+ghost use mathlib.Core.Path.{_≡_};
+ghost use Prim.Native.Nat.{_≤_};
+ghost use lib.ListN.{length};
+ghost use Rattle.words.specs.Spaces.{onto};
+ghost use Rattle.transcript.specs.Outcomes.{converted, told};
+ghost use Rattle.records.specs.Boards.{front-of};
+use front_ends::charge::Charge;
+use front_ends::charge::ChargeFrontEnd;
+use front_ends::time::Time;
+use front_ends::time::TimeFrontEnd;
+use std::alloc::AllocError;
+use std::alloc::Global;
+use std::env;
+use std::error::AnyError;
+use std::io::Read;
+use std::io::Write;
+use transcript::convert::convert;
+use transcript::outcome::Transcript;
+use wording::Summary;
+use wording::SummaryDisplay;
+
+const MOST_WORDS: usize = 16384;
+
+/// Eight bytes of records for each word, and what any one event may ask for: the run never lacks room.
+const ROOM: usize = 8 * MOST_WORDS + 256;
+
+/// One byte more than a run may have, so that a longer input is seen to be too long.
+const MOST_BYTES: u64 = 4 * 16384 + 1;
+
+#[derive(Clone, Copy)]
+enum Board {
+    Charge,
+    Time,
+}
+
+fn board_of(rt: &LibcRuntime) -> Result<Option<Board>, AnyError> {
+    let mut args = env::args(rt)?.skip(1);
+    let Some(kind) = args.next() else {
+        return Ok(Some(Board::Charge));
+    };
+    if kind.as_str() == "time" && args.next().is_none() {
+        return Ok(Some(Board::Time));
+    }
+    Ok(None)
+}
+
+/// Converts the bytes for a board of that kind.
+fn convert_for(board: Board, bytes: &[u8], words: &mut [u32], space: &mut [u8]) -> Transcript
+    ensures is { λ r. ⌜ r ≡ told (converted (front-of board) (now (bytes .entry)) (now (words .entry)) (length (now (space .entry)))) ⌝ }
+    ensures after { λ _. ⌜ now (space .exit) ≡ onto (converted (front-of board) (now (bytes .entry)) (now (words .entry)) (length (now (space .entry))) .bytes) (now (space .entry)) ⌝ }
+    ensures within { λ r. ⌜ r .bytes ≤ length (now (space .exit)) ⌝ }
+{
+    match board {
+        Board::Charge => convert(&Charge, bytes, words, space),
+        Board::Time => convert(&Time, bytes, words, space),
+    }
+}
+
+fn run(rt: &LibcRuntime, board: Board) -> Result<(), AnyError> {
+    let heap = rt.alloc();
+    let mut bytes = Vec::new(heap);
+    rt.stdin().take(MOST_BYTES).read_to_end(&mut bytes)?;
+    let mut words = vec![in heap; 0u32; MOST_WORDS]?;
+    let mut space = vec![in heap; 0u8; ROOM]?;
+    let transcript = convert_for(board, &bytes, &mut words, &mut space);
+    let written = transcript.bytes;
+    rt.stdout().write_all(&space[0..written])?;
+    let name = match board {
+        Board::Charge => "charge",
+        Board::Time => "time",
+    };
+    let summary = Summary(transcript);
+    eprintln!(rt, "{name} board: {summary}")?;
+    Ok(())
+}
+
+fn main(rt: LibcRuntime) -> Result<(), AnyError> {
+    match board_of(&rt)? {
+        Some(board) => run(&rt, board),
+        None => {
+            eprintln!(rt, "usage: records [time] < WORDS > RECORDS")?;
+            Err("unknown argument".into())
+        }
+    }
+}
