@@ -3,6 +3,7 @@
 ghost use mathlib.Core.Path.{_≡_};
 ghost use Prim.Native.Nat.{_≤_};
 ghost use lib.ListN.{length};
+ghost use Rattle.std.specs.Results.{Cases};
 ghost use Rattle.words.specs.Spaces.{onto};
 ghost use Rattle.transcript.specs.Outcomes.{converted, told};
 ghost use Rattle.records.specs.Boards.{front-of};
@@ -10,10 +11,9 @@ use front_ends::charge::Charge;
 use front_ends::charge::ChargeFrontEnd;
 use front_ends::time::Time;
 use front_ends::time::TimeFrontEnd;
-use std::alloc::AllocError;
-use std::alloc::Global;
 use std::env;
 use std::error::AnyError;
+use std::io;
 use std::io::Read;
 use std::io::Write;
 use transcript::convert::convert;
@@ -27,7 +27,7 @@ const MOST_WORDS: usize = 16384;
 const ROOM: usize = 8 * MOST_WORDS + 256;
 
 /// One byte more than a run may have, so that a longer input is seen to be too long.
-const MOST_BYTES: u64 = 4 * 16384 + 1;
+const MOST_BYTES: usize = 4 * MOST_WORDS + 1;
 
 #[derive(Clone, Copy)]
 enum Board {
@@ -58,13 +58,30 @@ fn convert_for(board: Board, bytes: &[u8], words: &mut [u32], space: &mut [u8]) 
     }
 }
 
+/// Fills the buffer from standard input, and answers how much of it, up to all.
+fn read_input(rt: &LibcRuntime, buffer: &mut [u8]) -> io::Result<usize>
+    ensures { λ r. ⌜ Cases r (λ n. n ≤ length (now (buffer .exit))) (λ _. Unit {0}) ⌝ }
+{
+    let mut stdin = rt.stdin();
+    let mut filled = 0;
+    // Each turn brings a byte or more, or ends the input.
+    for _ in 0..buffer.len() {
+        let more = stdin.read(&mut buffer[filled..])?;
+        if more == 0 {
+            break;
+        }
+        filled += more;
+    }
+    Ok(filled)
+}
+
 fn run(rt: &LibcRuntime, board: Board) -> Result<(), AnyError> {
     let heap = rt.alloc();
-    let mut bytes = Vec::new(heap);
-    rt.stdin().take(MOST_BYTES).read_to_end(&mut bytes)?;
+    let mut input = vec![in heap; 0u8; MOST_BYTES]?;
+    let length = read_input(rt, &mut input)?;
     let mut words = vec![in heap; 0u32; MOST_WORDS]?;
     let mut space = vec![in heap; 0u8; ROOM]?;
-    let transcript = convert_for(board, &bytes, &mut words, &mut space);
+    let transcript = convert_for(board, &input[0..length], &mut words, &mut space);
     let written = transcript.bytes;
     rt.stdout().write_all(&space[0..written])?;
     let name = match board {
