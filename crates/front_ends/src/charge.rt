@@ -10,12 +10,74 @@ pub struct Charge;
 
 /// The tag of each slot: the order in which the board reads its converters out.
 const TAGS: [u8; 32] = [
-    0, 16, 1, 17, 2, 18, 3, 19, 4, 20, 5, 21, 6, 22, 7, 23, 8, 24, 9, 25, 10, 26, 11, 27, 12, 28, 13, 29, 14, 30, 15, 31,
+    0,
+    16,
+    1,
+    17,
+    2,
+    18,
+    3,
+    19,
+    4,
+    20,
+    5,
+    21,
+    6,
+    22,
+    7,
+    23,
+    8,
+    24,
+    9,
+    25,
+    10,
+    26,
+    11,
+    27,
+    12,
+    28,
+    13,
+    29,
+    14,
+    30,
+    15,
+    31,
 ];
 
 /// The slot of each tag.
 const SLOTS: [u8; 32] = [
-    0, 2, 4, 6, 8, 10, 12, 14, 16, 18, 20, 22, 24, 26, 28, 30, 1, 3, 5, 7, 9, 11, 13, 15, 17, 19, 21, 23, 25, 27, 29, 31,
+    0,
+    2,
+    4,
+    6,
+    8,
+    10,
+    12,
+    14,
+    16,
+    18,
+    20,
+    22,
+    24,
+    26,
+    28,
+    30,
+    1,
+    3,
+    5,
+    7,
+    9,
+    11,
+    13,
+    15,
+    17,
+    19,
+    21,
+    23,
+    25,
+    27,
+    29,
+    31,
 ];
 
 pub impl FrontEnd for Charge as ChargeFrontEnd {
@@ -26,11 +88,19 @@ pub impl FrontEnd for Charge as ChargeFrontEnd {
     }
 
     fn tag(&self, slot: u8) -> Option<u8> {
-        if slot < 32 { Some(TAGS[slot as usize]) } else { None }
+        if slot < 32 {
+            Some(TAGS[slot as usize])
+        } else {
+            None
+        }
     }
 
     fn slot(&self, tag: u8) -> Option<u8> {
-        if tag < 32 { Some(SLOTS[tag as usize]) } else { None }
+        if tag < 32 {
+            Some(SLOTS[tag as usize])
+        } else {
+            None
+        }
     }
 
     fn carries_step(&self) -> bool {

@@ -47,24 +47,24 @@ pub enum Refusal {
 pub impl From<WordFault> for EventFault as EventFromWord {
     ghost converts = { λ e r. r ≡ Word e };
 
-    fn from(fault: WordFault) -> EventFault {
-        EventFault::Word(fault)
+    fn from(word: WordFault) -> EventFault {
+        EventFault::Word(word)
     }
 }
 
 pub impl From<EventFault> for RunFault as RunFromEvent {
     ghost converts = { λ e r. r ≡ Event e };
 
-    fn from(fault: EventFault) -> RunFault {
-        RunFault::Event(fault)
+    fn from(event: EventFault) -> RunFault {
+        RunFault::Event(event)
     }
 }
 
 pub impl From<RunFault> for Refusal as RefusalFromRun {
     ghost converts = { λ e r. r ≡ Fault e };
 
-    fn from(fault: RunFault) -> Refusal {
-        Refusal::Fault(fault)
+    fn from(run: RunFault) -> Refusal {
+        Refusal::Fault(run)
     }
 }
 

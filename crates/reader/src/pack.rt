@@ -34,7 +34,12 @@ fn put_words(bytes: &[u8], count: usize, space: &mut [u32])
     ensures { λ _. ⌜ now (space .exit) ≡ onto (packed (now (bytes .entry)) count) (now (space .entry)) ⌝ }
 {
     for i in 0..count {
-        space[i] = u32::from_be_bytes([bytes[4 * i], bytes[4 * i + 1], bytes[4 * i + 2], bytes[4 * i + 3]]);
+        space[i] = u32::from_be_bytes([
+            bytes[4 * i],
+            bytes[4 * i + 1],
+            bytes[4 * i + 2],
+            bytes[4 * i + 3],
+        ]);
     }
 }
 

@@ -19,11 +19,14 @@ pub struct Summary(pub Transcript);
 /// What is wrong with a word, and what was expected in its place.
 fn word_words(fault: &WordFault) -> &'static str {
     match (fault.cause, fault.due) {
-        (WordCause::Kind, Due::First) => "the word is of another kind; expected a header or a filler",
+        (WordCause::Kind, Due::First) =>
+            "the word is of another kind; expected a header or a filler",
         (WordCause::Kind, Due::Datum) => "the word is of another kind; expected a datum",
         (WordCause::Kind, Due::End) => "the word is of another kind; expected the event's end",
-        (WordCause::Bit, Due::First) => "a bit is 1; expected a header with bits 15, 14 and 7 to 0 zero",
-        (WordCause::Bit, Due::Datum) => "a bit is 1; expected a datum with bits 23 to 21, 15 and 14 zero",
+        (WordCause::Bit, Due::First) =>
+            "a bit is 1; expected a header with bits 15, 14 and 7 to 0 zero",
+        (WordCause::Bit, Due::Datum) =>
+            "a bit is 1; expected a datum with bits 23 to 21, 15 and 14 zero",
         (WordCause::Bit, Due::End) => "a bit is 1; expected an end with it zero",
     }
 }
@@ -33,7 +36,8 @@ fn event_words(fault: &EventFault) -> &'static str {
         EventFault::Word(fault) => word_words(fault),
         EventFault::Geo(_) => "the GEO is another; expected that of the event's header",
         EventFault::TooMany(_) => "the header tells of too many readings; expected at most 32",
-        EventFault::Twice(_) => "the tag stands in the event already; expected a tag that is new in it",
+        EventFault::Twice(_) =>
+            "the tag stands in the event already; expected a tag that is new in it",
         EventFault::CutShort(_) => "the run ends inside the event; expected another word of it",
     }
 }
@@ -75,7 +79,10 @@ fn write_stop<W: fmt::Write>(stop: &Stop, f: &mut fmt::Formatter<W>) -> fmt::Res
             let place = report.place;
             let began = report.began;
             let why = run_words(fault);
-            write!(f, "fault {number} at word {place}, in what begins at word {began}: {why}")
+            write!(
+                f,
+                "fault {number} at word {place}, in what begins at word {began}: {why}"
+            )
         }
         Stop::Reading(refusal) => {
             let number = refusal.number();
@@ -93,7 +100,10 @@ pub impl fmt::Display for Summary as SummaryDisplay {
             dashes,
             fillers,
         } = self.0.tally;
-        write!(f, "events {events}, readings {readings}, dashes {dashes}, fillers {fillers}")?;
+        write!(
+            f,
+            "events {events}, readings {readings}, dashes {dashes}, fillers {fillers}"
+        )?;
         if let Some(stop) = self.0.stop {
             write!(f, "\n")?;
             write_stop(&stop, f)?;

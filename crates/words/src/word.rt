@@ -9,8 +9,7 @@
 
 ghost use mathlib.Core.Path.{_≡_};
 ghost use Prim.Native.Nat.{_<_};
-ghost use Rattle.words.specs.Events.{header-word, datum-word, end-word};
-ghost use Rattle.words.specs.Words.{bits, kept-if, header-fits, datum-fits, end-fits, reading-of, read-first, read-datum, read-end, Header-again, Datum-again, End-again, First-only, Datum-only, End-only};
+ghost use Rattle.words.specs.Words.{bits, make-header, make-datum, make-end, reading-of, read-first, read-datum, read-end, Header-again, Datum-again, End-again, First-only, Datum-only, End-only};
 use crate::fault::Due;
 use crate::fault::Spot;
 use crate::fault::WordCause;
@@ -71,7 +70,7 @@ fn field(word: u32, low: u32, width: u32) -> u32
 impl Header {
     /// The header's word, or none where a part does not fit its bits.
     pub fn word(&self) -> Option<u32>
-        ensures is { λ r. ⌜ r ≡ kept-if (header-fits (now (self .entry))) (header-word (now (self .entry) .geo) (now (self .entry) .«crate_number») (now (self .entry) .readings)) ⌝ }
+        ensures is { λ r. ⌜ r ≡ make-header (now (self .entry)) ⌝ }
         ensures again { λ r. ⌜ Header-again (now (self .entry)) r ⌝ }
     {
         if self.geo < 32 && self.readings < 64 {
@@ -104,7 +103,7 @@ impl Reading {
 impl Datum {
     /// The datum's word, or none where a part does not fit its bits.
     pub fn word(&self) -> Option<u32>
-        ensures is { λ r. ⌜ r ≡ kept-if (datum-fits (now (self .entry))) (datum-word (now (self .entry) .geo) (now (self .entry) .reading)) ⌝ }
+        ensures is { λ r. ⌜ r ≡ make-datum (now (self .entry)) ⌝ }
         ensures again { λ r. ⌜ Datum-again (now (self .entry)) r ⌝ }
     {
         let reading = self.reading;
@@ -145,7 +144,7 @@ impl Datum {
 impl End {
     /// The word that ends an event, or none where a part does not fit its bits.
     pub fn word(&self) -> Option<u32>
-        ensures is { λ r. ⌜ r ≡ kept-if (end-fits (now (self .entry))) (end-word (now (self .entry) .geo) (now (self .entry) .number)) ⌝ }
+        ensures is { λ r. ⌜ r ≡ make-end (now (self .entry)) ⌝ }
         ensures again { λ r. ⌜ End-again (now (self .entry)) r ⌝ }
     {
         if self.geo < 32 && self.number < 1 << 24 {
