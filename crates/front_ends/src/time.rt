@@ -20,7 +20,8 @@ pub impl FrontEnd for Time as TimeFrontEnd {
     }
 
     fn slot(&self, tag: u8) -> Option<u8> {
-        if tag < 32 { Some(tag) } else { None }
+        // Slot and tag are one number here.
+        self.tag(tag)
     }
 
     fn carries_step(&self) -> bool {
