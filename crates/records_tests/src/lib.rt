@@ -1,0 +1,6 @@
+//! Tests of whole runs, from bytes to records and to what is said of them. What each expects is written out by hand.
+
+#[cfg(test)]
+mod inputs;
+#[cfg(test)]
+mod runs;
