@@ -49,3 +49,7 @@ Stands t ts None = (s : ℕ) → s < length ts → getD ts s 0 ≡ t → ⊥
 -- the slot of a tag is absent exactly where no slot has that tag
 abbrev pub Slot-is : Front → ℕ → Option ℕ → Type 0
 Slot-is f t r = Stands t (f .tags) r
+
+-- some slot of the front end has the tag
+abbrev pub Has-tag : Front → ℕ → Type 0
+Has-tag f t = (s : ℕ) × (s < length (f .tags)) × (getD (f .tags) s 0 ≡ t)

@@ -21,7 +21,7 @@ event-report (Word f) = word-report f
 event-report (Geo s) = report-at 13 layer.Event s
 event-report (TooMany s) = report-at 14 layer.Event s
 event-report (Twice s) = report-at 15 layer.Event s
-event-report (CutShort s) = report-at 16 layer.Event s
+event-report (CutShort d s) = report-at 16 layer.Event s
 
 -- 17: a tag that the front end lacks
 abbrev pub run-report : RunFault → Report

@@ -5,6 +5,7 @@ ghost use Rattle.reader.specs.declared.fault.EventFault.the-variants.{Word};
 ghost use Rattle.reader.specs.declared.fault.RunFault.the-variants.{Event};
 ghost use Rattle.reader.specs.declared.fault.Refusal.the-variants.{Fault};
 ghost use Rattle.reader.specs.Faults.{event-report, run-report, refusal-number, refusal-place};
+use words::fault::Due;
 use words::fault::Layer;
 use words::fault::Report;
 use words::fault::Spot;
@@ -20,8 +21,8 @@ pub enum EventFault {
     TooMany(Spot),
     /// The tag stands in the event already.
     Twice(Spot),
-    /// The run ends inside the event.
-    CutShort(Spot),
+    /// The run ends inside the event, where this word is due.
+    CutShort(Due, Spot),
 }
 
 /// A fault of the run layer.
@@ -78,7 +79,7 @@ impl EventFault {
             EventFault::Geo(spot) => (13, *spot),
             EventFault::TooMany(spot) => (14, *spot),
             EventFault::Twice(spot) => (15, *spot),
-            EventFault::CutShort(spot) => (16, *spot),
+            EventFault::CutShort(_, spot) => (16, *spot),
         };
         Report {
             number,
@@ -107,6 +108,7 @@ impl RunFault {
 }
 
 impl Refusal {
+    /// 7, 9, 10, or the fault's.
     pub fn number(&self) -> u8
         ensures { λ r. ⌜ r ≡ refusal-number (now (self .entry)) ⌝ }
     {

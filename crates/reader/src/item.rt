@@ -8,7 +8,7 @@ pub enum Item<'a> {
         geo: u8,
         crate_number: u8,
         number: u32,
-        readings: &'a [u32],
+        data_words: &'a [u32],
     },
     /// A filler word.
     Filler(u32),

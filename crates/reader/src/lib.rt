@@ -1,6 +1,6 @@
 //! Reads a run of words: bytes into words, and the event, the filler or the fault at a place.
 
-pub mod event;
+mod event;
 pub mod fault;
 pub mod item;
 pub mod pack;

@@ -1,7 +1,7 @@
 //! Bytes as words, high byte first.
 
 ghost use mathlib.Core.Path.{_≡_};
-ghost use Prim.Native.Nat.{_*_, _/_, _≤_};
+ghost use Prim.Native.Nat.{_*_, _≤_};
 ghost use lib.ListN.{length};
 ghost use Rattle.words.specs.Spaces.{onto};
 ghost use Rattle.reader.specs.Packing.{packed, pack-answer, pack-after, pack-number};
@@ -19,6 +19,7 @@ pub enum PackRefusal {
 }
 
 impl PackRefusal {
+    /// 9, whatever the reason.
     pub fn number(&self) -> u8
         ensures { λ r. ⌜ r ≡ pack-number (now (self .entry)) ⌝ }
     {

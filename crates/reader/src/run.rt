@@ -1,7 +1,7 @@
 //! The run layer: what stands at a place of a run.
 
 ghost use mathlib.Core.Path.{_≡_};
-ghost use Prim.Native.Nat.{_<_, _≤_};
+ghost use Prim.Native.Nat.{_≤_};
 ghost use lib.ListN.{length};
 ghost use Rattle.reader.specs.Items.{means-run, means};
 ghost use Rattle.reader.specs.Runs.{run-at, read-at};

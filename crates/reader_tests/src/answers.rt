@@ -49,12 +49,12 @@ impl Answer {
                 geo,
                 crate_number,
                 number,
-                readings,
+                data_words,
             } => Answer::Event {
                 geo,
                 crate_number,
                 number,
-                readings: readings.len(),
+                readings: data_words.len(),
                 next,
             },
         }

@@ -73,8 +73,8 @@ fn an_event_lends_its_data() -> Result<(), Fail> {
     let Ok(Some(found)) = read(&RUN, 1) else {
         return Err(Fail::new("no item"));
     };
-    let Item::Event { readings, .. } = found.item else {
+    let Item::Event { data_words, .. } = found.item else {
         return Err(Fail::new("no event"));
     };
-    check_eq(readings, &[0x1804_0064, 0x1805_2320])
+    check_eq(data_words, &[0x1804_0064, 0x1805_2320])
 }

@@ -17,7 +17,7 @@ use words::fault::WordFault;
 pub struct Summary(pub Transcript);
 
 /// What is wrong with a word, and what was expected in its place.
-fn word_words(fault: &WordFault) -> &'static str {
+fn describe_word(fault: &WordFault) -> &'static str {
     match (fault.cause, fault.due) {
         (WordCause::Kind, Due::First) =>
             "the word is of another kind; expected a header or a filler",
@@ -31,38 +31,38 @@ fn word_words(fault: &WordFault) -> &'static str {
     }
 }
 
-fn event_words(fault: &EventFault) -> &'static str {
+fn describe_event(fault: &EventFault) -> &'static str {
     match fault {
-        EventFault::Word(fault) => word_words(fault),
-        EventFault::Geo(_) => "the GEO is another; expected that of the event's header",
-        EventFault::TooMany(_) => "the header tells of too many readings; expected at most 32",
-        EventFault::Twice(_) =>
-            "the tag stands in the event already; expected a tag that is new in it",
-        EventFault::CutShort(_) => "the run ends inside the event; expected another word of it",
+        EventFault::Word(fault) => describe_word(fault),
+        EventFault::Geo(_) => "GEO differs; expected that of the event's header",
+        EventFault::TooMany(_) => "the header tells of too many readings; expected 32 or fewer",
+        EventFault::Twice(_) => "the tag was used in this event; expected one that was not",
+        EventFault::CutShort(Due::Datum, _) => "the run ends inside the event; expected a datum",
+        EventFault::CutShort(_, _) => "the run ends inside the event; expected its end",
     }
 }
 
-fn run_words(fault: &RunFault) -> &'static str {
+fn describe_run(fault: &RunFault) -> &'static str {
     match fault {
-        RunFault::Event(fault) => event_words(fault),
-        RunFault::NoSuchTag(_) => "the board has no such tag; expected a tag of its kind",
+        RunFault::Event(fault) => describe_event(fault),
+        RunFault::NoSuchTag(_) => "the board has no such tag; expected one of its own",
     }
 }
 
-fn pack_words(refusal: &PackRefusal) -> &'static str {
+fn describe_packing(refusal: &PackRefusal) -> &'static str {
     match refusal {
-        PackRefusal::TooLong => "the input exceeds 16384 words",
+        PackRefusal::TooLong => "the input is too long; expected 65536 bytes or fewer",
         PackRefusal::CutWord => "the input ends inside a word; expected a multiple of 4 bytes",
-        PackRefusal::SpaceShort => "the words do not fit their space",
+        PackRefusal::SpaceShort => "the words do not fit; expected a space as long as they are",
     }
 }
 
-fn refusal_words(refusal: &Refusal) -> &'static str {
+fn describe_refusal(refusal: &Refusal) -> &'static str {
     match refusal {
         Refusal::SpaceShort => "the record space is under 256 bytes",
         Refusal::TooLong => "the run exceeds 16384 words",
         Refusal::PastEnd => "the place is past the run's end",
-        Refusal::Fault(fault) => run_words(fault),
+        Refusal::Fault(fault) => describe_run(fault),
     }
 }
 
@@ -70,7 +70,7 @@ fn write_stop<W: fmt::Write>(stop: &Stop, f: &mut fmt::Formatter<W>) -> fmt::Res
     match stop {
         Stop::Packing(refusal) => {
             let number = refusal.number();
-            let why = pack_words(refusal);
+            let why = describe_packing(refusal);
             write!(f, "refused {number}: {why}")
         }
         Stop::Reading(Refusal::Fault(fault)) => {
@@ -78,15 +78,15 @@ fn write_stop<W: fmt::Write>(stop: &Stop, f: &mut fmt::Formatter<W>) -> fmt::Res
             let number = report.number;
             let place = report.place;
             let began = report.began;
-            let why = run_words(fault);
+            let why = describe_run(fault);
             write!(
                 f,
-                "fault {number} at word {place}, in what begins at word {began}: {why}"
+                "fault {number} at word {place}, in the item that begins at word {began}: {why}"
             )
         }
         Stop::Reading(refusal) => {
             let number = refusal.number();
-            let why = refusal_words(refusal);
+            let why = describe_refusal(refusal);
             write!(f, "refused {number}: {why}")
         }
     }

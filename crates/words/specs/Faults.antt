@@ -2,7 +2,6 @@
 use Prim.Native.Nat.{ℕ}
 use Rattle.words.specs.declared.fault.Layer.the-variants.{Word}
 use Rattle.words.specs.declared.fault.Report.{Report}
-use Rattle.words.specs.declared.fault.Spot.{Spot}
 use Rattle.words.specs.declared.fault.WordCause.{WordCause}
 use Rattle.words.specs.declared.fault.WordCause.the-variants.{Kind, Bit}
 use Rattle.words.specs.declared.fault.WordFault.{WordFault}

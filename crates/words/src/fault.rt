@@ -37,6 +37,7 @@ pub enum Due {
     End,
 }
 
+/// What is wrong with a word.
 #[derive(Clone, Copy)]
 pub enum WordCause {
     /// The word is of a kind that is not due.
@@ -45,6 +46,7 @@ pub enum WordCause {
     Bit,
 }
 
+/// A fault of the word layer: what is wrong, what was due, and where.
 #[derive(Clone, Copy)]
 pub struct WordFault {
     pub cause: WordCause,

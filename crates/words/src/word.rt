@@ -15,6 +15,7 @@ use crate::fault::Spot;
 use crate::fault::WordCause;
 use crate::fault::WordFault;
 
+/// The word that begins an event.
 #[derive(Clone, Copy)]
 pub struct Header {
     pub geo: u8,
@@ -31,12 +32,14 @@ pub struct Reading {
     pub count: u16,
 }
 
+/// The word of one reading.
 #[derive(Clone, Copy)]
 pub struct Datum {
     pub geo: u8,
     pub reading: Reading,
 }
 
+/// The word that ends an event.
 #[derive(Clone, Copy)]
 pub struct End {
     pub geo: u8,
