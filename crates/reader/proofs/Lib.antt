@@ -1,4 +1,5 @@
 pub mod Accepting
+pub mod Breaking
 pub mod Exactly
 pub mod Inverting
 pub mod Packs

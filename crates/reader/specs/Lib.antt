@@ -1,3 +1,4 @@
+pub mod Breaks
 pub mod Events
 pub mod Faults
 pub mod Items

@@ -5,7 +5,9 @@ use mathlib.Core.Bool.{Bool, true, false, cond, _&&_}
 use borrow.Author.Needs.{needs}
 use Rattle.std.specs.declared.result.Result.{Result}
 use Rattle.std.specs.declared.result.Result.the-variants.{Ok, Err}
+use Rattle.words.specs.declared.fault.Due.the-variants as due
 use Rattle.words.specs.declared.fault.Spot.{Spot}
+use Rattle.words.specs.declared.fault.WordFault.{WordFault}
 use Rattle.words.specs.declared.word.Header.{Header}
 use Rattle.words.specs.declared.word.Datum.{Datum}
 use Rattle.words.specs.declared.word.End.{End}
@@ -13,7 +15,7 @@ use Rattle.words.specs.declared.word.First.{First}
 use Rattle.words.specs.declared.word.First.the-variants as first
 use Rattle.words.specs.declared.word.Reading.{Reading}
 use Rattle.words.specs.Events.{header-word, datum-word, end-word}
-use Rattle.words.specs.Words.{bits, kind-of, geo-of, reading-of, read-first, read-datum, read-end, First-is, datum-fits, end-fits}
+use Rattle.words.specs.Words.{bits, kind-of, geo-of, reading-of, read-first, read-datum, read-end, First-is, Header-clean, Datum-clean, Told, datum-fits, end-fits}
 
 -- a header's word is read as the header
 pub header-again : (g k n : ℕ) (s : Spot) → g < 32 → k < 256 → n < 64
@@ -49,3 +51,23 @@ Crate-fits first.Filler = Unit {0}
 
 pub first-crate : (w : ℕ) (s : Spot) (x : First) → read-first w s ≡ Ok x → Crate-fits x
 first-crate w s x e = search needs
+
+-- what is not read is wrong
+pub first-wrong : (w : ℕ) (s : Spot) (f : WordFault) → read-first w s ≡ Err f → Told w due.First s f
+first-wrong w s f e = search needs
+
+pub datum-wrong : (w : ℕ) (s : Spot) (f : WordFault) → read-datum w s ≡ Err f → Told w due.Datum s f
+datum-wrong w s f e = search needs
+
+pub end-wrong : (w : ℕ) (s : Spot) (f : WordFault) → read-end w s ≡ Err f → Told w due.End s f
+end-wrong w s f e = search needs
+
+-- what was read shows in the bits
+pub header-parts : (w : ℕ) (s : Spot) (h : Header) → read-first w s ≡ Ok (first.Header h) → (kind-of w ≡ 2) × Header-clean w × (bits w 8 6 ≡ h .readings)
+header-parts w s h e = search needs
+
+pub datum-parts : (w : ℕ) (s : Spot) (d : Datum) → read-datum w s ≡ Ok d → (kind-of w ≡ 0) × Datum-clean w × (geo-of w ≡ d .geo)
+datum-parts w s d e = search needs
+
+pub end-parts : (w : ℕ) (s : Spot) (x : End) → read-end w s ≡ Ok x → (kind-of w ≡ 4) × (geo-of w ≡ x .geo)
+end-parts w s x e = search needs

@@ -126,7 +126,7 @@ impl Datum {
     /// Takes a word apart where a datum is due.
     pub fn read(word: u32, spot: Spot) -> Result<Datum, WordFault>
         ensures is { λ r. ⌜ r ≡ read-datum word spot ⌝ }
-        ensures only { λ r. ⌜ Datum-only word r ⌝ }
+        ensures only { λ r. ⌜ Datum-only word spot r ⌝ }
     {
         let due = Due::Datum;
         if field(word, 24, 3) != DATUM {
@@ -160,7 +160,7 @@ impl End {
     /// Takes a word apart where an end is due.
     pub fn read(word: u32, spot: Spot) -> Result<End, WordFault>
         ensures is { λ r. ⌜ r ≡ read-end word spot ⌝ }
-        ensures only { λ r. ⌜ End-only word r ⌝ }
+        ensures only { λ r. ⌜ End-only word spot r ⌝ }
     {
         if field(word, 24, 3) != END {
             let cause = WordCause::Kind;
@@ -178,7 +178,7 @@ impl First {
     /// Takes a word apart where a header or a filler is due. A filler's other bits are not looked at.
     pub fn read(word: u32, spot: Spot) -> Result<First, WordFault>
         ensures is { λ r. ⌜ r ≡ read-first word spot ⌝ }
-        ensures only { λ r. ⌜ First-only word r ⌝ }
+        ensures only { λ r. ⌜ First-only word spot r ⌝ }
     {
         let due = Due::First;
         let kind = field(word, 24, 3);
