@@ -4,7 +4,8 @@ import struct
 import sys
 
 GEO, CRATE = 3, 5
-TAGS = [tag for channel in range(16) for tag in (channel, channel + 16)]
+# The readout order: the tags of the lower and of the upper half take turns.
+TAGS = [tag for low in range(16) for tag in (low, low + 16)]
 
 
 def event(number):

@@ -42,11 +42,12 @@ fn time_tags_are_slots() -> Result<(), Fail> {
     ends_at_32(&Time)
 }
 
+/// The tags of the lower and of the upper half take turns.
 #[test]
 fn charge_tags_go_by_two_halves() -> Result<(), Fail> {
-    for channel in 0..16 {
-        slot_has_tag(&Charge, 2 * channel, channel)?;
-        slot_has_tag(&Charge, 2 * channel + 1, 16 + channel)?;
+    for tag in 0..16 {
+        slot_has_tag(&Charge, 2 * tag, tag)?;
+        slot_has_tag(&Charge, 2 * tag + 1, 16 + tag)?;
     }
     ends_at_32(&Charge)
 }

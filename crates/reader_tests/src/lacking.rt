@@ -1,8 +1,5 @@
 //! A front end that lacks tags.
 
-ghost use Prim.Native.Nat.{_*_};
-ghost use mathlib.Core.Bool.{false};
-ghost use mathlib.Core.List.{[], _∷_};
 use crate::answers::Answer;
 use crate::answers::event;
 use crate::answers::fault;
@@ -10,46 +7,10 @@ use crate::by_hand::FILLER;
 use crate::by_hand::datum;
 use crate::by_hand::end;
 use crate::by_hand::header;
+use crate::pair::Pair;
+use crate::pair::PairFrontEnd;
 use crate::spaces::lifts;
-use front_ends::front_end::FrontEnd;
-use front_ends::step::Step;
 use std::test::*;
-
-/// Two slots, with the tags 5 and 9.
-#[derive(Clone, Copy)]
-struct Pair;
-
-impl FrontEnd for Pair as PairFrontEnd {
-    ghost meaning = { λ _. record { tags = 5 ∷ 9 ∷ []; carries-step = false; floor = λ _ t. 16 * t } };
-
-    fn slots(&self) -> u8 {
-        2
-    }
-
-    fn tag(&self, slot: u8) -> Option<u8> {
-        match slot {
-            0 => Some(5),
-            1 => Some(9),
-            _ => None,
-        }
-    }
-
-    fn slot(&self, tag: u8) -> Option<u8> {
-        match tag {
-            5 => Some(0),
-            9 => Some(1),
-            _ => None,
-        }
-    }
-
-    fn carries_step(&self) -> bool {
-        false
-    }
-
-    fn floor(&self, _step: Step, threshold: u8) -> u16 {
-        16 * u16::from(threshold)
-    }
-}
 
 /// Lifts an event with these three tags at place 1, whose end has this GEO.
 fn finds(tags: [u8; 3], end_geo: u8, answer: Answer) -> Result<(), Fail> {

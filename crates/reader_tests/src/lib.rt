@@ -16,6 +16,7 @@ mod lifting;
 mod limits;
 #[cfg(test)]
 mod packing;
+pub mod pair;
 #[cfg(test)]
 mod parts;
 #[cfg(test)]

@@ -1,16 +1,20 @@
 //! `records [time]`: words of a charge board, or of a time board, from standard input; records to standard output.
 
 ghost use mathlib.Core.Path.{_≡_};
-ghost use Prim.Native.Nat.{_≤_};
+ghost use Prim.Native.Nat.{_+_, _*_, _≤_};
 ghost use lib.ListN.{length};
 ghost use Rattle.std.specs.Results.{Cases};
 ghost use Rattle.words.specs.Spaces.{onto};
+ghost use Rattle.transcript.specs.Laws.{Faithful, Never-cramped};
 ghost use Rattle.transcript.specs.Outcomes.{converted, told};
 ghost use Rattle.records.specs.Boards.{front-of};
+use event_records::RECORD;
 use front_ends::charge::Charge;
 use front_ends::charge::ChargeFrontEnd;
 use front_ends::time::Time;
 use front_ends::time::TimeFrontEnd;
+use lift::SPACE;
+use reader::run::MOST_WORDS;
 use std::env;
 use std::error::AnyError;
 use std::io;
@@ -21,10 +25,8 @@ use transcript::outcome::Transcript;
 use wording::Summary;
 use wording::SummaryDisplay;
 
-const MOST_WORDS: usize = 16384;
-
-/// Eight bytes of records for each word, and what any one event may ask for: the run never lacks room.
-const ROOM: usize = 8 * MOST_WORDS + 256;
+/// A record for each word, and what any one event may ask for: no run lacks room.
+const ROOM: usize = RECORD * MOST_WORDS + SPACE;
 
 /// One byte more than a run may have, so that a longer input is seen to be too long.
 const MOST_BYTES: usize = 4 * MOST_WORDS + 1;
@@ -46,10 +48,14 @@ fn board_of(rt: &LibcRuntime) -> Result<Option<Board>, AnyError> {
     Ok(None)
 }
 
-/// Converts the bytes for a board of that kind.
+/// Converts the bytes for a board of that kind. With the room that this program has, no run is left for want of it.
 fn convert_for(board: Board, bytes: &[u8], words: &mut [u32], space: &mut [u8]) -> Transcript
+    requires { ⌜ length (now words) ≡ 16384 ⌝ }
+    requires { ⌜ 8 * 16384 + 256 ≤ length (now space) ⌝ }
     ensures is { λ r. ⌜ r ≡ told (converted (front-of board) (now (bytes .entry)) (now (words .entry)) (length (now (space .entry)))) ⌝ }
     ensures after { λ _. ⌜ now (space .exit) ≡ onto (converted (front-of board) (now (bytes .entry)) (now (words .entry)) (length (now (space .entry))) .bytes) (now (space .entry)) ⌝ }
+    ensures faithful { λ r. ⌜ Faithful (front-of board) (now (bytes .entry)) (now (words .entry)) (now (space .entry)) r (now (space .exit)) ⌝ }
+    ensures roomy { λ r. ⌜ Never-cramped r ⌝ }
     ensures within { λ r. ⌜ r .bytes ≤ length (now (space .exit)) ⌝ }
 {
     match board {

@@ -1,6 +1,10 @@
 //! Inputs that are no whole run.
 
-use crate::runs::becomes;
+use crate::rooms::Room;
+use crate::rooms::becomes;
+use crate::rooms::becomes_in;
+use crate::runs::EMPTY;
+use crate::runs::EMPTY_RECORD;
 use front_ends::charge::Charge;
 use front_ends::charge::ChargeFrontEnd;
 use std::test::*;
@@ -32,7 +36,7 @@ fn cut_in_a_word(rt: LibcRuntime) -> Result<(), Fail> {
 #[test]
 fn cut_in_an_event(rt: LibcRuntime) -> Result<(), Fail> {
     let said =
-        "events 0, readings 0, dashes 0, fillers 0\nfault 16 at word 2, in what begins at word 0: the run ends inside the event; expected another word of it";
+        "events 0, readings 0, dashes 0, fillers 0\nfault 16 at word 2, in the item that begins at word 0: the run ends inside the event; expected its end";
     let record = [0x00, 0x00, 0x02, 0x00, 0xFE, 0x10, 0xFF, 0xFF];
     becomes(
         rt.alloc(),
@@ -50,7 +54,7 @@ fn more_than_the_words_space(rt: LibcRuntime) -> Result<(), Fail> {
     let said = "events 0, readings 0, dashes 0, fillers 32";
     becomes(rt.alloc(), &Charge, &fillers[0..128], &[], said)?;
     let refused =
-        "events 0, readings 0, dashes 0, fillers 0\nrefused 9: the words do not fit their space";
+        "events 0, readings 0, dashes 0, fillers 0\nrefused 9: the words do not fit; expected a space as long as they are";
     becomes(rt.alloc(), &Charge, &fillers, &REFUSED, refused)
 }
 
@@ -58,11 +62,37 @@ fn more_than_the_words_space(rt: LibcRuntime) -> Result<(), Fail> {
 fn longer_than_a_run(rt: LibcRuntime) -> Result<(), Fail> {
     let bytes = vec![in rt.alloc(); 0x06u8; 65540]?;
     let refused =
-        "events 0, readings 0, dashes 0, fillers 0\nrefused 9: the input exceeds 16384 words";
+        "events 0, readings 0, dashes 0, fillers 0\nrefused 9: the input is too long; expected 65536 bytes or fewer";
     becomes(rt.alloc(), &Charge, bytes.as_slice(), &REFUSED, refused)
 }
 
-/// 255 bytes are refused and stay as they were; 256 are enough.
+/// 256 bytes must be left behind the record, and be there from the first.
+#[test]
+fn too_little_space(rt: LibcRuntime) -> Result<(), Fail> {
+    for (bytes, records, said) in [
+        (
+            264,
+            EMPTY_RECORD,
+            "events 1, readings 0, dashes 0, fillers 0",
+        ),
+        (
+            263,
+            EMPTY_RECORD,
+            "events 1, readings 0, dashes 0, fillers 0\nrefused 7: the record space is under 256 bytes",
+        ),
+        (
+            255,
+            &[],
+            "events 0, readings 0, dashes 0, fillers 0\nrefused 7: the record space is under 256 bytes",
+        ),
+    ] {
+        let room = Room { words: 2, bytes };
+        becomes_in(room, rt.alloc(), &Charge, EMPTY, records, said)?;
+    }
+    Ok(())
+}
+
+/// 255 bytes are refused before a word is written; 256 are enough.
 #[test]
 fn the_least_space() -> Result<(), Fail> {
     let mut words = [7u32; 4];

@@ -1,42 +1,21 @@
 //! Runs of several items, whole and broken.
 
+use crate::rooms::becomes;
 use front_ends::charge::Charge;
 use front_ends::charge::ChargeFrontEnd;
-use front_ends::front_end::FrontEnd;
 use front_ends::time::Time;
 use front_ends::time::TimeFrontEnd;
-use std::alloc::Global;
 use std::test::*;
-use transcript::convert::convert;
-use wording::Summary;
-use wording::SummaryDisplay;
 
-/// What stands in the record space before anything is written.
-const BLANK: u8 = 0xAA;
+/// GEO 3, crate 5, number 7, without readings.
+pub(crate) const EMPTY: &[u8] = b"\x1A\x05\x00\x00\x1C\x00\x00\x07";
+
+pub(crate) const EMPTY_RECORD: &[u8] = b"\x00\x00\x07\x03\xFF\x04\xFF\xFF";
 
 /// GEO 3, crate 5, number 7: tag 4 count 100, tag 5 count 800.
 const TWO: &[u8] = b"\x1A\x05\x02\x00\x18\x04\x00\x64\x18\x05\x03\x20\x1C\x00\x00\x07";
 
 const TWO_RECORDS: &[u8] = b"\x00\x00\x07\x03\x04\x00\x00\x64\x00\x00\x07\x03\x05\x00\x03\x20";
-
-/// The records must be these, the rest of the space blank, and the summary must read so.
-pub(crate) fn becomes<F: FrontEnd>(
-    heap: Global,
-    front: &F,
-    bytes: &[u8],
-    records: &[u8],
-    summary: &str,
-) -> Result<(), Fail> {
-    let mut words = [0u32; 32];
-    let mut space = [BLANK; 512];
-    let transcript = convert(front, bytes, &mut words, &mut space);
-    check_eq(transcript.bytes, records.len())?;
-    for (i, byte) in space.iter().enumerate() {
-        check_eq(*byte, records.get(i).copied().unwrap_or(BLANK)).note(format_args!("at {i}"))?;
-    }
-    let said = Summary(transcript).to_string(heap)?;
-    check_eq(said.as_str(), summary)
-}
 
 #[test]
 fn two_readings(rt: LibcRuntime) -> Result<(), Fail> {
@@ -62,7 +41,7 @@ fn a_tag_twice(rt: LibcRuntime) -> Result<(), Fail> {
     let bytes = b"\x1A\x05\x02\x00\x18\x04\x00\x64\x18\x04\x00\x64";
     let record = b"\x00\x00\x02\x00\xFE\x0F\xFF\xFF";
     let said =
-        "events 0, readings 0, dashes 0, fillers 0\nfault 15 at word 2, in what begins at word 0: the tag stands in the event already; expected a tag that is new in it";
+        "events 0, readings 0, dashes 0, fillers 0\nfault 15 at word 2, in the item that begins at word 0: the tag was used in this event; expected one that was not";
     becomes(rt.alloc(), &Charge, bytes, record, said)
 }
 
@@ -72,6 +51,6 @@ fn broken_behind_an_event(rt: LibcRuntime) -> Result<(), Fail> {
     let bytes = b"\x06\x00\x00\x00\x1A\x05\x01\x00\x18\x04\x0F\xFF\x1C\x00\x00\x07\x18\x04\x00\x64";
     let records = b"\x00\x00\x07\x03\x04\x00\x0F\xFF\x00\x00\x04\x00\xFE\x0B\xFF\xFF";
     let said =
-        "events 1, readings 1, dashes 0, fillers 1\nfault 11 at word 4, in what begins at word 4: the word is of another kind; expected a header or a filler";
+        "events 1, readings 1, dashes 0, fillers 1\nfault 11 at word 4, in the item that begins at word 4: the word is of another kind; expected a header or a filler";
     becomes(rt.alloc(), &Time, bytes, records, said)
 }
