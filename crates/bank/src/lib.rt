@@ -1,4 +1,5 @@
 //! A bank: one board or more, reached by station. What the boards do, call by call, is in specs/.
+#![tactic(auto)]
 
 ghost use Rattle.std.specs.Prelude.{◌≡◌, ◌≤◌, List, length, Err};
 ghost use Rattle.std.specs.List.{AllByRecursion as All};

@@ -1,4 +1,5 @@
 //! Single bits of a word of 32. Bit 0 is the lowest.
+#![tactic(auto)]
 
 ghost use Rattle.std.specs.Prelude.{◌≡◌, ◌<◌};
 ghost use Rattle.bits.specs.Bits.{has, Sets};

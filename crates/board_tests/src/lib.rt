@@ -1,5 +1,6 @@
 //! Tests of a board that plays, all through the calls of a bank. What each expects is written out by hand from the
 //! rules.
+#![tactic(auto)]
 
 #[cfg(test)]
 mod buffers;

@@ -1,4 +1,5 @@
 //! The events of a board that wait, at most 32.
+#![tactic(auto)]
 
 pub mod buffer;
 pub mod fill;

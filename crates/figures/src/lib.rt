@@ -1,4 +1,5 @@
 //! The worked examples of the rules, proved of the definitions that the contracts of this repository cite.
+#![tactic(auto)]
 
 ghost use Rattle.std.specs.Prelude.{◌≡◌};
 ghost use Rattle.words.specs.Events.{words};

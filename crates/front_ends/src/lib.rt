@@ -1,4 +1,5 @@
 //! Front ends: the kinds of converter that a board can carry.
+#![tactic(auto)]
 
 pub mod charge;
 pub mod front_end;

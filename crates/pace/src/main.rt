@@ -1,4 +1,5 @@
 //! `pace COUNT [draw]`: so many gates put to a charge board, each event skipped or drawn, for a count of instructions.
+#![tactic(auto)]
 
 use anyhow::anyhow;
 use bank::Bank;

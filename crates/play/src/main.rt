@@ -1,5 +1,6 @@
 //! `play [FILE]`: the calls of a script from standard input, put to one board that plays; the answers to standard
 //! output. The drawn words go to the file too, as bytes, if one is named.
+#![tactic(auto)]
 
 use anyhow::anyhow;
 use bank::Bank;

@@ -1,4 +1,5 @@
 //! The lines of a script, put to one board.
+#![tactic(auto)]
 
 ghost use Rattle.std.specs.Prelude.{◌≡◌, ◌≤◌, length, Err};
 ghost use Rattle.answers.specs.declared.refusal.Refusal.TheVariants.{NoStation};

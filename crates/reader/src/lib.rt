@@ -1,4 +1,5 @@
 //! Reads a run of words: bytes into words, and the event, the filler or the fault at a place.
+#![tactic(auto)]
 
 mod event;
 pub mod fault;

@@ -1,4 +1,5 @@
 //! Tests of the reader and of what it stands on. What each expects is written out by hand from the rules.
+#![tactic(auto)]
 
 #[cfg(test)]
 mod answers;

@@ -1,4 +1,5 @@
 //! Why a line is not understood, and why a call is refused, in plain words.
+#![tactic(auto)]
 
 ghost use Rattle.std.specs.Prelude.{◌≡◌, Some};
 ghost use Rattle.reasons.specs.Reasons.{place_name, flaw_text, range_text, subject_of, trouble_of, wanted_of, reason_of, cause_of, refused_text};

@@ -1,4 +1,5 @@
 //! `records [time]`: words of a charge board, or of a time board, from standard input; records to standard output.
+#![tactic(auto)]
 
 ghost use Rattle.std.specs.Prelude.{◌≡◌, ◌+◌, ◌*◌, ◌≤◌, length, IfOk};
 ghost use Rattle.words.specs.Spaces.{onto};

@@ -1,4 +1,5 @@
 //! Tests of whole runs, from bytes to records and to what is said of them. What each expects is written out by hand.
+#![tactic(auto)]
 
 #[cfg(test)]
 mod faults;

@@ -1,4 +1,5 @@
 //! Tests of a script's lines and of what is printed of them. What each expects is written out by hand from the rules.
+#![tactic(auto)]
 
 #[cfg(test)]
 mod boards;

@@ -1,4 +1,5 @@
 //! The settings of a board, the registers that reach them, and how they judge a reading.
+#![tactic(auto)]
 
 pub mod judge;
 pub mod mode;

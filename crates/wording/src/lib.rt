@@ -1,4 +1,5 @@
 //! What a program says of a run, in plain words.
+#![tactic(auto)]
 
 use reader::fault::{EventFault, Refusal, RunFault};
 use reader::pack::PackRefusal;

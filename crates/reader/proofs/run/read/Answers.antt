@@ -9,7 +9,7 @@ use Rattle.reader.proofs.run.read.Goals as goal
 
 pub returns-then-place-run : goal.returns-then-place-run
 returns-then-place-run c =
-    let all = All-from_get_or (λ w. w < 2 ^ 32) c.args.run.now 0 (λ i l. (c.type-inv.run i).fits) in
+    let all = All-from_get_or (λ w. w < 2 ^ 32) c.args.run.now 0 (λ i l. (c.ok.run i).fits) in
     let i : ◌≡◌ {A = Answer} (Err PastEnd) (read_at c.args.run.now c.args.place) = search rules in
     record { is = i; exact = exactly c.args.run.now c.args.place _ all i }
 
@@ -21,6 +21,6 @@ returns-in-err-found c =
 
 pub returns : goal.returns
 returns c =
-    let all = All-from_get_or (λ w. w < 2 ^ 32) c.args.run.now 0 (λ i l. (c.type-inv.run i).fits) in
+    let all = All-from_get_or (λ w. w < 2 ^ 32) c.args.run.now 0 (λ i l. (c.ok.run i).fits) in
     let i : ◌≡◌ {A = Answer} (Ok (answer_of c.in-ok-found.found)) (read_at c.args.run.now c.args.place) = search rules in
     record { is = i; exact = exactly c.args.run.now c.args.place _ all i }

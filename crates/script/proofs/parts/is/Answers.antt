@@ -7,6 +7,6 @@ use Rattle.script.proofs.parts.is.Goals as goal
 pub returns : goal.returns
 returns c =
     let part = c.args.part.now in
-    let word = c.as-bytes.result.now in
+    let word = c.as_bytes.result.now in
     same_from_decides c.eq.result (bytes_eq part word) (slice_eq-Decides Decides-eqb part word c.eq.result c.eq.ensures) (bytes_eq-Decides part word)
-    ∙ ap (bytes_eq part) c.as-bytes.ensures.value
+    ∙ ap (bytes_eq part) c.as_bytes.ensures.value

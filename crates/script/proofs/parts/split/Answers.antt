@@ -8,5 +8,5 @@ returns c =
     let bytes = c.args.bytes.now in
     record {
       part = ap (λ n. take n bytes) (omega arith) ∙ take_before c.args.stop bytes;
-      rest = take_rest bytes c.length-before-length.result ∙ ap (λ n. drop n bytes) c.length-before-length.ensures.is ∙ drop_before c.args.stop bytes;
+      rest = take_rest bytes c.length_before-length.result ∙ ap (λ n. drop n bytes) c.length_before-length.ensures.is ∙ drop_before c.args.stop bytes;
     }
