@@ -9,18 +9,18 @@ use Rattle.reader.proofs.run.read.Goals as goal
 
 pub returns-then-place-run : goal.returns-then-place-run
 returns-then-place-run c =
-    let all = All-from_get_or (λ w. w < 2 ^ 32) c.args.run.now 0 (λ i l. (c.ok.run i).fits) in
+    let all = All-from_get_or (λ w. w < 2 ^ 32) c.args.run.now 0 (λ i l. (c.type_inv.run i).fits) in
     let i : ◌≡◌ {A = Answer} (Err PastEnd) (read_at c.args.run.now c.args.place) = search rules in
     record { is = i; exact = exactly c.args.run.now c.args.place _ all i }
 
-pub returns-in-err-found : goal.returns-in-err-found
-returns-in-err-found c =
-    let all = All-from_get_or (λ w. w < 2 ^ 32) c.args.run.now 0 (λ i l. (c.type-inv.run i).fits) in
-    let i : means c.from-residual.result ≡ read_at c.args.run.now c.args.place = search rules in
+pub returns-in_err-found : goal.returns-in_err-found
+returns-in_err-found c =
+    let all = All-from_get_or (λ w. w < 2 ^ 32) c.args.run.now 0 (λ i l. (c.type_inv.run i).fits) in
+    let i : means c.from_residual.result ≡ read_at c.args.run.now c.args.place = search rules in
     record { is = i; exact = exactly c.args.run.now c.args.place _ all i }
 
 pub returns : goal.returns
 returns c =
-    let all = All-from_get_or (λ w. w < 2 ^ 32) c.args.run.now 0 (λ i l. (c.ok.run i).fits) in
-    let i : ◌≡◌ {A = Answer} (Ok (answer_of c.in-ok-found.found)) (read_at c.args.run.now c.args.place) = search rules in
+    let all = All-from_get_or (λ w. w < 2 ^ 32) c.args.run.now 0 (λ i l. (c.type_inv.run i).fits) in
+    let i : ◌≡◌ {A = Answer} (Ok (answer_of c.in_ok-found.found)) (read_at c.args.run.now c.args.place) = search rules in
     record { is = i; exact = exactly c.args.run.now c.args.place _ all i }

@@ -3,8 +3,8 @@ use Rattle.script.specs.Numbers.{figure_of, numeral, capped}
 use Rattle.script.proofs.Counting.{numeral_more, numeral_stop, numeral_all, some_numeral, no_numeral}
 use Rattle.script.proofs.numbers.numeral.Goals as goal
 
-pub returns-then-is-empty : goal.returns-then-is-empty
-returns-then-is-empty c = no_numeral c.args.base c.args.digits.now (search rules)
+pub returns-then-is_empty : goal.returns-then-is_empty
+returns-then-is_empty c = no_numeral c.args.base c.args.digits.now (search rules)
 
 pub returns-then-figure-base : goal.returns-then-figure-base
 returns-then-figure-base c =

@@ -5,8 +5,8 @@ use Rattle.script.proofs.parts.length_before.Goals as goal
 pub loop-i-preserved : goal.loop-i-preserved
 loop-i-preserved c = before_more c.args.stop c.args.bytes.now c.loop-i.i _ (search rules) (search rules) c.loop-i.invariant
 
-pub returns-then-stops-at : goal.returns-then-stops-at
-returns-then-stops-at c = record {
+pub returns-then-stops_at : goal.returns-then-stops_at
+returns-then-stops_at c = record {
   is = before_stop c.args.stop c.args.bytes.now c.loop-i.i _ (search rules) (search rules) c.loop-i.invariant;
   within = search rules;
 }

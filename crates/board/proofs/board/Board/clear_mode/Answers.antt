@@ -6,6 +6,6 @@ use Rattle.board.proofs.board.Board.clear_mode.Goals as goal
 pub invariant-of-self : goal.invariant-of-self
 invariant-of-self g c =
     let unnamed = auto_incr_unnamed c.carries_step.result c.args.value (search rules) in
-    let cleared = c.with-cleared-self.ensures.bits 11 in
+    let cleared = c.with_cleared-self.ensures.bits 11 in
     let stood = c.args.self.now.auto_incr in
     search rules
