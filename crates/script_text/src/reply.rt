@@ -55,7 +55,7 @@ pub struct Reply {
 }
 
 fn write_words<W: fmt::Write>(words: &[u32], f: &mut fmt::Formatter<W>) -> fmt::Result
-    ensures { WritesOnOk write_str_gives f.old result (words_text words.now) f.new }
+    ensures { WritesOnOk W.write_str_gives f.old result (words_text words.now) f.new }
 {
     for word in words {
         let digits = EightDigits(*word);
