@@ -3,8 +3,8 @@ use Rattle.bits.specs.Bits.{has}
 use Rattle.settings.proofs.ModeLaws.{auto_incr_unnamed}
 use Rattle.board.proofs.board.Board.clear_mode.Goals as goal
 
-pub invariant-of-self : goal.invariant-of-self
-invariant-of-self g c =
+pub invariant_of-self : goal.invariant_of-self
+invariant_of-self g c =
     let unnamed = auto_incr_unnamed c.carries_step.result c.args.value (search rules) in
     let cleared = c.with_cleared-self.ensures.bits 11 in
     let stood = c.args.self.now.auto_incr in

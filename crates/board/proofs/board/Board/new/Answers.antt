@@ -2,6 +2,6 @@ use Rattle.std.proofs.Common.{rules}
 use Rattle.bits.specs.Bits.{has}
 use Rattle.board.proofs.board.Board.new.Goals as goal
 
-pub invariant-of-result-2 : goal.invariant-of-result-2
+pub invariant_of-result-2 : goal.invariant_of-result-2
 unfolding has
-invariant-of-result-2 g c = search rules
+invariant_of-result-2 g c = search rules

@@ -2,6 +2,6 @@ use Rattle.std.proofs.Common.{rules}
 use Rattle.bits.specs.Bits.{has}
 use Rattle.board.proofs.board.Board.software_reset.Goals as goal
 
-pub invariant-of-self : goal.invariant-of-self
+pub invariant_of-self : goal.invariant_of-self
 unfolding has
-invariant-of-self g c = search rules
+invariant_of-self g c = search rules

@@ -11,8 +11,8 @@ bounds-self-slot g c =
     let stands = subst (λ r. SlotIs f c.args.tag r) c.in-Some.is c.slot.ensures.exact in
     omega (arith, stands.0, few)
 
-pub invariant-of-self : goal.invariant-of-self
-invariant-of-self g c =
+pub invariant_of-self : goal.invariant_of-self
+invariant_of-self g c =
     let b = c.args.self.now in
     let fits = level_fits c.args.value c.in-Some-of.threshold (sym c.of.ensures.is ∙ c.in-Some-of.is) in
     let levels = levels_set b.settings.thresholds c.in-Some.slot c.in-Some-of.threshold b.levels_fit fits in
