@@ -11,7 +11,7 @@ returns-in-Charge c =
       is = d.is;
       after = d.written;
       faithful = d.faithful;
-      roomy = never_cramped _ c.args.bytes.now c.args.words.now c.args.space.now c.convert.result c.convert.new.space c.requires.0 c.requires.1 d.faithful;
+      roomy = never_cramped _ c.args.bytes.now c.args.words.now c.args.space.now c.convert.result c.convert.new.space c.requires.words_len c.requires.in_bounds d.faithful;
       within = c.convert.ensures.within;
     }
 
@@ -23,6 +23,6 @@ returns-in-Time c =
       is = d.is;
       after = d.written;
       faithful = d.faithful;
-      roomy = never_cramped _ c.args.bytes.now c.args.words.now c.args.space.now c.convert-in-Time.result c.convert-in-Time.new.space c.requires.0 c.requires.1 d.faithful;
+      roomy = never_cramped _ c.args.bytes.now c.args.words.now c.args.space.now c.convert-in-Time.result c.convert-in-Time.new.space c.requires.words_len c.requires.in_bounds d.faithful;
       within = c.convert-in-Time.ensures.within;
     }
