@@ -7,14 +7,15 @@ use board::board::Board;
 use front_ends::time::Time;
 use reader_tests::pair::Pair;
 use std::process::Abort;
+use std::test::Fail;
 
 /// A gate stores an event of the counts n and 4095 - n.
-fn stores<B: Bank>(rt: &impl Abort, bank: &mut B, n: u16) -> Result<(), Fail> {
-    gates(rt, bank, 0, &[n % 4096, 4095 - n % 4096], Ok((true, 2))).note(n)
+fn stores<B: Bank>(rt: &impl Abort, bank: &mut B, n: u16) {
+    gates(rt, bank, 0, &[n % 4096, 4095 - n % 4096], Ok((true, 2)));
 }
 
 /// That event comes, with this number.
-fn draws_numbered<B: Bank>(rt: &impl Abort, bank: &mut B, n: u16, number: u32) -> Result<(), Fail> {
+fn draws_numbered<B: Bank>(rt: &impl Abort, bank: &mut B, n: u16, number: u32) {
     draws(
         rt,
         bank,
@@ -24,76 +25,72 @@ fn draws_numbered<B: Bank>(rt: &impl Abort, bank: &mut B, n: u16, number: u32) -
             datum(31, 9, 4095 - n % 4096),
             end(31, number),
         ],
-    )
-    .note(n)
+    );
 }
 
 /// The refused gate is counted under ALL TRG, so that number 32 belongs to no event.
 #[test]
-fn the_33rd_event_does_not_fit(rt: HostRuntime) -> Result<(), Fail> {
+fn the_33rd_event_does_not_fit(rt: HostRuntime) {
     let mut board = Board::new(Pair);
     for n in 0..32 {
         waits(&rt, &board, usize::from(n));
-        stores(&rt, &mut board, n)?;
+        stores(&rt, &mut board, n);
     }
     waits(&rt, &board, 32);
-    gates(&rt, &mut board, 0, &[9, 9], Err(24))?;
+    gates(&rt, &mut board, 0, &[9, 9], Err(24));
     waits(&rt, &board, 32);
-    draws_numbered(&rt, &mut board, 0, 0)?;
+    draws_numbered(&rt, &mut board, 0, 0);
     waits(&rt, &board, 31);
-    stores(&rt, &mut board, 33)?;
+    stores(&rt, &mut board, 33);
     waits(&rt, &board, 32);
-    gates(&rt, &mut board, 0, &[9, 9], Err(24))?;
+    gates(&rt, &mut board, 0, &[9, 9], Err(24));
     for n in 1..32 {
-        draws_numbered(&rt, &mut board, n, u32::from(n))?;
+        draws_numbered(&rt, &mut board, n, u32::from(n));
     }
-    draws_numbered(&rt, &mut board, 33, 33)?;
+    draws_numbered(&rt, &mut board, 33, 33);
     draws_nothing(&rt, &mut board);
-    Ok(())
 }
 
 /// A gate that keeps nothing does not fit either, though it would store nothing.
 #[test]
-fn a_full_buffer_takes_no_gate(rt: HostRuntime) -> Result<(), Fail> {
+fn a_full_buffer_takes_no_gate(rt: HostRuntime) {
     let mut board = Board::new(Pair);
     for n in 0..32 {
-        stores(&rt, &mut board, n)?;
+        stores(&rt, &mut board, n);
     }
-    gates(&rt, &mut board, 0, &[0x1000; 2], Err(24))?;
+    gates(&rt, &mut board, 0, &[0x1000; 2], Err(24));
     writes(&rt, &mut board, SKIP, 0);
-    gates(&rt, &mut board, 0, &[0x1000; 2], Ok((false, 0)))?;
+    gates(&rt, &mut board, 0, &[0x1000; 2], Ok((false, 0)));
     waits(&rt, &board, 31);
-    stores(&rt, &mut board, 50)?;
-    gates(&rt, &mut board, 0, &[1, 1], Err(24))
+    stores(&rt, &mut board, 50);
+    gates(&rt, &mut board, 0, &[1, 1], Err(24));
 }
 
 /// 100 events, each drawn when so many came after it.
-fn goes_round<B: Bank>(rt: &impl Abort, bank: &mut B, behind: u16) -> Result<(), Fail> {
+fn goes_round<B: Bank>(rt: &impl Abort, bank: &mut B, behind: u16) {
     for n in 0..200u16 {
         if n < 100 {
-            stores(rt, bank, n)?;
+            stores(rt, bank, n);
         }
         if n >= behind && n - behind < 100 {
-            draws_numbered(rt, bank, n - behind, u32::from(n - behind))?;
+            draws_numbered(rt, bank, n - behind, u32::from(n - behind));
         }
     }
     draws_nothing(rt, bank);
-    Ok(())
 }
 
 #[test]
-fn the_buffer_goes_round(rt: HostRuntime) -> Result<(), Fail> {
+fn the_buffer_goes_round(rt: HostRuntime) {
     for behind in [0, 1, 2, 30, 31] {
         let mut board = Board::new(Pair);
-        goes_round(&rt, &mut board, behind)?;
+        goes_round(&rt, &mut board, behind);
         writes(&rt, &mut board, COUNTER_RESET, 0);
-        goes_round(&rt, &mut board, behind)?;
+        goes_round(&rt, &mut board, behind);
     }
-    Ok(())
 }
 
 /// Under EMPTY every gate stores an event: here of both readings, of the first, of the second, or of none.
-fn stores_some<B: Bank>(rt: &impl Abort, bank: &mut B, n: u16) -> Result<(), Fail> {
+fn stores_some<B: Bank>(rt: &impl Abort, bank: &mut B, n: u16) {
     match n % 5 {
         1 => gates(rt, bank, 0, &[n, 0x1000], Ok((true, 1))),
         2 => gates(rt, bank, 0, &[0x1000, n], Ok((true, 1))),
@@ -102,7 +99,7 @@ fn stores_some<B: Bank>(rt: &impl Abort, bank: &mut B, n: u16) -> Result<(), Fai
     }
 }
 
-fn draws_some<B: Bank>(rt: &impl Abort, bank: &mut B, n: u16) -> Result<(), Fail> {
+fn draws_some<B: Bank>(rt: &impl Abort, bank: &mut B, n: u16) {
     let last = end(31, u32::from(n));
     match n % 5 {
         1 => draws(rt, bank, &[header(31, 0, 1), datum(31, 5, n), last]),
@@ -118,48 +115,46 @@ fn draws_some<B: Bank>(rt: &impl Abort, bank: &mut B, n: u16) -> Result<(), Fail
 
 /// Nothing comes of an event that waited in the same place before.
 #[test]
-fn places_are_used_again(rt: HostRuntime) -> Result<(), Fail> {
+fn places_are_used_again(rt: HostRuntime) {
     for behind in [0, 3, 31] {
         let mut board = Board::new(Pair);
         writes(&rt, &mut board, MODE, EMPTY);
         for n in 0..200u16 {
             if n < 160 {
-                stores_some(&rt, &mut board, n)?;
+                stores_some(&rt, &mut board, n);
             }
             if n >= behind && n - behind < 160 {
-                draws_some(&rt, &mut board, n - behind)?;
+                draws_some(&rt, &mut board, n - behind);
             }
         }
         draws_nothing(&rt, &mut board);
     }
-    Ok(())
 }
 
 /// Gates that store nothing pass by the events that wait, also where the buffer has gone round and one place is left.
 #[test]
-fn no_gate_touches_what_waits(rt: HostRuntime) -> Result<(), Fail> {
+fn no_gate_touches_what_waits(rt: HostRuntime) {
     let mut board = Board::new(Pair);
     writes(&rt, &mut board, MODE_CLEAR, ALL_TRG);
     for n in 0..20 {
-        stores(&rt, &mut board, n)?;
-        draws_numbered(&rt, &mut board, n, u32::from(n))?;
+        stores(&rt, &mut board, n);
+        draws_numbered(&rt, &mut board, n, u32::from(n));
     }
     for n in 20..51 {
-        stores(&rt, &mut board, n)?;
-        gates(&rt, &mut board, 0, &[7, 0x2000], Err(3))?;
-        gates(&rt, &mut board, 0, &[7], Err(2))?;
-        gates(&rt, &mut board, 3, &[7, 7], Err(4))?;
-        gates(&rt, &mut board, 1, &[7, 7], Err(21))?;
-        gates(&rt, &mut board, 2, &[7, 7], Err(25))?;
+        stores(&rt, &mut board, n);
+        gates(&rt, &mut board, 0, &[7, 0x2000], Err(3));
+        gates(&rt, &mut board, 0, &[7], Err(2));
+        gates(&rt, &mut board, 3, &[7, 7], Err(4));
+        gates(&rt, &mut board, 1, &[7, 7], Err(21));
+        gates(&rt, &mut board, 2, &[7, 7], Err(25));
     }
-    gates(&rt, &mut board, 0, &[0x1007, 0x1007], Ok((false, 0)))?;
+    gates(&rt, &mut board, 0, &[0x1007, 0x1007], Ok((false, 0)));
     waits(&rt, &board, 31);
     for n in 20..51 {
-        draws_numbered(&rt, &mut board, n, u32::from(n))?;
+        draws_numbered(&rt, &mut board, n, u32::from(n));
     }
     draws_nothing(&rt, &mut board);
     counts(&rt, &board, 52);
-    Ok(())
 }
 
 /// A block is 34 words at least, and that is told before that nothing waits.
@@ -175,7 +170,7 @@ fn blocks_without_an_event(rt: HostRuntime) {
 
 /// A block that is too short for the longest event is too short for any.
 #[test]
-fn blocks_for_an_event(rt: HostRuntime) -> Result<(), Fail> {
+fn blocks_for_an_event(rt: HostRuntime) {
     let mut board = Board::new(Pair);
     let words = [
         header(31, 0, 2),
@@ -183,14 +178,13 @@ fn blocks_for_an_event(rt: HostRuntime) -> Result<(), Fail> {
         datum(31, 9, 20),
         end(31, 0),
     ];
-    gates(&rt, &mut board, 0, &[10, 20], Ok((true, 2)))?;
+    gates(&rt, &mut board, 0, &[10, 20], Ok((true, 2)));
     draws_into(&rt, &mut board, &mut [], Err(8), &[]);
     draws_into(&rt, &mut board, &mut [0; 4], Err(8), &[]);
     draws_into(&rt, &mut board, &mut [0; 33], Err(8), &[]);
     waits(&rt, &board, 1);
     draws_into(&rt, &mut board, &mut [0; 34], Ok(4), &words);
     draws_nothing(&rt, &mut board);
-    Ok(())
 }
 
 #[test]
@@ -201,11 +195,11 @@ fn blocks_for_the_longest_event(rt: HostRuntime) -> Result<(), Fail> {
         words.push(datum(31, tag, 4095))?;
     }
     words.push(end(31, 0))?;
-    gates(&rt, &mut board, 0, &[4095; 32], Ok((true, 32)))?;
+    gates(&rt, &mut board, 0, &[4095; 32], Ok((true, 32)));
     draws_into(&rt, &mut board, &mut [0; 33], Err(8), &[]);
     draws_into(&rt, &mut board, &mut [0; 34], Ok(34), &words);
     writes(&rt, &mut board, COUNTER_RESET, 0);
-    gates(&rt, &mut board, 0, &[4095; 32], Ok((true, 32)))?;
+    gates(&rt, &mut board, 0, &[4095; 32], Ok((true, 32)));
     draws_into(&rt, &mut board, &mut [0; 35], Ok(34), &words);
     draws_nothing(&rt, &mut board);
     Ok(())
@@ -213,37 +207,36 @@ fn blocks_for_the_longest_event(rt: HostRuntime) -> Result<(), Fail> {
 
 /// Skips and draws take the events in one order.
 #[test]
-fn skips_and_draws(rt: HostRuntime) -> Result<(), Fail> {
+fn skips_and_draws(rt: HostRuntime) {
     let mut board = Board::new(Pair);
     refuses(&rt, &mut board, SKIP, 0, 26);
     refuses(&rt, &mut board, SKIP, 0xFFFF, 26);
     for n in 0..5 {
-        stores(&rt, &mut board, n)?;
+        stores(&rt, &mut board, n);
     }
     writes(&rt, &mut board, SKIP, 0);
     waits(&rt, &board, 4);
-    draws_numbered(&rt, &mut board, 1, 1)?;
+    draws_numbered(&rt, &mut board, 1, 1);
     writes(&rt, &mut board, SKIP, 1);
     writes(&rt, &mut board, SKIP, 0xFFFF);
-    draws_numbered(&rt, &mut board, 4, 4)?;
+    draws_numbered(&rt, &mut board, 4, 4);
     refuses(&rt, &mut board, SKIP, 0, 26);
     draws_nothing(&rt, &mut board);
     counts(&rt, &board, 5);
-    Ok(())
 }
 
 /// Bit 0: an event waits. Bit 2: 32 wait, or CLEAR DATA stands.
 #[test]
-fn the_status(rt: HostRuntime) -> Result<(), Fail> {
+fn the_status(rt: HostRuntime) {
     let mut board = Board::new(Pair);
     reads(&rt, &board, STATUS, Ok(0));
     for n in 0..31 {
-        stores(&rt, &mut board, n)?;
+        stores(&rt, &mut board, n);
         reads(&rt, &board, STATUS, Ok(1));
     }
-    stores(&rt, &mut board, 31)?;
+    stores(&rt, &mut board, 31);
     reads(&rt, &board, STATUS, Ok(5));
-    draws_numbered(&rt, &mut board, 0, 0)?;
+    draws_numbered(&rt, &mut board, 0, 0);
     reads(&rt, &board, STATUS, Ok(1));
     writes(&rt, &mut board, MODE, OFFLINE);
     reads(&rt, &board, STATUS, Ok(1));
@@ -252,8 +245,7 @@ fn the_status(rt: HostRuntime) -> Result<(), Fail> {
     writes(&rt, &mut board, MODE_CLEAR, CLEAR_DATA);
     reads(&rt, &board, STATUS, Ok(0));
     writes(&rt, &mut board, MODE_CLEAR, OFFLINE);
-    stores(&rt, &mut board, 0)?;
+    stores(&rt, &mut board, 0);
     writes(&rt, &mut board, SKIP, 0);
     reads(&rt, &board, STATUS, Ok(0));
-    Ok(())
 }
