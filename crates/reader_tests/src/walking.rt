@@ -73,6 +73,6 @@ fn an_event_lends_its_data(rt: HostRuntime) -> Result<(), Fail> {
     let Item::Event { data_words, .. } = found.item else {
         return Err(Fail::new("no event"));
     };
-    assert_eq!(rt; data_words, &[0x1804_0064, 0x1805_2320]);
+    assert_eq!(rt; data_words, [0x1804_0064, 0x1805_2320].as_slice());
     Ok(())
 }

@@ -1,7 +1,7 @@
 //! The line that names the board.
 
 use crate::said::check_lines;
-use std::test::*;
+use std::test::Fail;
 
 #[test]
 fn boards(rt: HostRuntime) -> Result<(), Fail> {
@@ -10,7 +10,7 @@ fn boards(rt: HostRuntime) -> Result<(), Fail> {
     const SURPLUS: &str =
         "1: not understood: a part is left over; expected the line's end before it";
     check_lines(
-        rt,
+        &rt,
         &[
             ("board time", "board time"),
             ("board charge", "board charge"),

@@ -1,7 +1,7 @@
 //! Calls and their arguments. Of several mistakes the leftmost is told.
 
 use crate::said::check_lines;
-use std::test::*;
+use std::test::Fail;
 
 const SURPLUS: &str = "1: not understood: a part is left over; expected the line's end before it";
 
@@ -13,7 +13,7 @@ fn reads_and_writes(rt: HostRuntime) -> Result<(), Fail> {
     const OFFSET: &str = "1: not understood: the offset is missing; expected a number up to 65535";
     const VALUE: &str = "1: not understood: the value is missing; expected a number up to 65535";
     check_lines(
-        rt,
+        &rt,
         &[
             ("write 0x1032 0x4880", "write 4146 18560"),
             ("write 1 2", "write 1 2"),
@@ -45,7 +45,7 @@ fn waits_and_draws(rt: HostRuntime) -> Result<(), Fail> {
     const LENGTH: &str =
         "1: not understood: the block's length is out of range; expected a number up to 64";
     check_lines(
-        rt,
+        &rt,
         &[
             ("waiting", "waiting"),
             ("waiting 1", SURPLUS),
@@ -69,7 +69,7 @@ fn waits_and_draws(rt: HostRuntime) -> Result<(), Fail> {
 #[test]
 fn names(rt: HostRuntime) -> Result<(), Fail> {
     check_lines(
-        rt,
+        &rt,
         &[
             ("WAITING", UNKNOWN),
             ("Draw", UNKNOWN),

@@ -3,7 +3,7 @@
 use crate::said::check_lines;
 use script::call::{Call, Line};
 use script::parse::parse;
-use std::test::*;
+use std::test::Fail;
 
 #[test]
 fn signals(rt: HostRuntime) -> Result<(), Fail> {
@@ -12,7 +12,7 @@ fn signals(rt: HostRuntime) -> Result<(), Fail> {
     const NUMBER: &str =
         "1: not understood: the signal is not a number, decimal or after 0x; expected none, veto, clear or a number up to 255";
     check_lines(
-        rt,
+        &rt,
         &[
             ("gate none", "gate 0:"),
             ("gate veto", "gate 1:"),
@@ -41,7 +41,7 @@ fn readings(rt: HostRuntime) -> Result<(), Fail> {
     const NUMBER: &str =
         "1: not understood: a reading is not a number, decimal or after 0x; expected a number up to 65535";
     check_lines(
-        rt,
+        &rt,
         &[
             ("gate none 1", "gate 0: 1"),
             ("gate none 1 0 65535 0xFFFF", "gate 0: 1 0 65535 65535"),
@@ -61,7 +61,7 @@ fn repetitions(rt: HostRuntime) -> Result<(), Fail> {
     const NUMBER: &str =
         "1: not understood: how often is not a number, decimal or after 0x; expected a number from 1 to 64";
     check_lines(
-        rt,
+        &rt,
         &[
             ("gate none 7*1", "gate 0: 7"),
             ("gate none 7*3 8 9*0x2", "gate 0: 7 7 7 8 9 9"),
@@ -103,7 +103,7 @@ fn many_readings(rt: HostRuntime) -> Result<(), Fail> {
         assert_eq!(rt; counted(line.as_bytes()), count, "{}", line);
     }
     check_lines(
-        rt,
+        &rt,
         &[(
             "gate none 1*64 2*64 3*64 4*64 6 x",
             "1: not understood: the readings are too many; expected 256 or fewer on a line",

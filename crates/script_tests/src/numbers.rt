@@ -1,7 +1,7 @@
 //! Numbers of every length, on each side of the limit.
 
 use crate::said::check_lines;
-use std::test::*;
+use std::test::Fail;
 
 const RANGE: &str = "1: not understood: the offset is out of range; expected a number up to 65535";
 
@@ -11,7 +11,7 @@ const NUMBER: &str =
 #[test]
 fn decimals(rt: HostRuntime) -> Result<(), Fail> {
     check_lines(
-        rt,
+        &rt,
         &[
             ("read 0", "read 0"),
             ("read 9", "read 9"),
@@ -37,7 +37,7 @@ fn decimals(rt: HostRuntime) -> Result<(), Fail> {
 #[test]
 fn hexadecimals(rt: HostRuntime) -> Result<(), Fail> {
     check_lines(
-        rt,
+        &rt,
         &[
             ("read 0x0", "read 0"),
             ("read 0xa", "read 10"),
@@ -68,5 +68,5 @@ fn a_hundred_digits(rt: HostRuntime) -> Result<(), Fail> {
         "read 0000000000000000000000000000000000000000000000000000000000000000000000000000000000000000000000000007";
     const LETTER: &str =
         "read 999999999999999999999999999999999999999999999999999999999999999999999999999999999999999999999999999a";
-    check_lines(rt, &[(NINES, RANGE), (ZEROS, "read 7"), (LETTER, NUMBER)])
+    check_lines(&rt, &[(NINES, RANGE), (ZEROS, "read 7"), (LETTER, NUMBER)])
 }

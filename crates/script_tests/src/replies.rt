@@ -4,15 +4,21 @@ use answers::gated::Gated;
 use answers::refusal::Refusal;
 use script::mistake::Mistake;
 use script_text::reply::{Answer, Drawn, MOST_WORDS, Reply};
-use std::test::*;
+use std::process::Abort;
+use std::test::Fail;
 
-fn check_reply(rt: HostRuntime, line: u64, answer: Answer, text: &str) -> Result<(), Fail> {
+fn check_reply(
+    rt: &(impl Abort + AllocGlobal),
+    line: u64,
+    answer: Answer,
+    text: &str,
+) -> Result<(), Fail> {
     let reply = Reply {
         line,
         told: Ok(answer),
     };
     let printed = format!(in rt.alloc(); "{reply}")?;
-    assert_eq!(printed.as_str(), text);
+    assert_eq!(rt; printed.as_str(), text);
     Ok(())
 }
 
@@ -26,15 +32,15 @@ fn gates(rt: HostRuntime) -> Result<(), Fail> {
         stored: false,
         kept: 0,
     };
-    check_reply(rt, 3, Answer::Gate(Ok(stored)), "3: gate: stored, 5 kept")?;
+    check_reply(&rt, 3, Answer::Gate(Ok(stored)), "3: gate: stored, 5 kept")?;
     check_reply(
-        rt,
+        &rt,
         4,
         Answer::Gate(Ok(not_stored)),
         "4: gate: not stored, 0 kept",
     )?;
     check_reply(
-        rt,
+        &rt,
         9,
         Answer::Gate(Err(Refusal::Veto)),
         "9: gate: refused 21: veto",
@@ -51,9 +57,9 @@ fn writes(rt: HostRuntime) -> Result<(), Fail> {
         offset: 0x1002,
         result: Err(Refusal::Value),
     };
-    check_reply(rt, 5, done, "5: write 0x1032: done")?;
+    check_reply(&rt, 5, done, "5: write 0x1032: done")?;
     check_reply(
-        rt,
+        &rt,
         11,
         refused,
         "11: write 0x1002: refused 6: the value exceeds its limit or names a mode bit that the board lacks",
@@ -70,14 +76,14 @@ fn reads(rt: HostRuntime) -> Result<(), Fail> {
         (0x0F10, 0x00EF, "6: read 0x0F10: 0x00EF"),
     ] {
         let result = Ok(value);
-        check_reply(rt, 6, Answer::Read { offset, result }, text)?;
+        check_reply(&rt, 6, Answer::Read { offset, result }, text)?;
     }
     let refused = Answer::Read {
         offset: 0x1001,
         result: Err(Refusal::NoRegister),
     };
     check_reply(
-        rt,
+        &rt,
         6,
         refused,
         "6: read 0x1001: refused 5: no such register for this access",
@@ -86,10 +92,10 @@ fn reads(rt: HostRuntime) -> Result<(), Fail> {
 
 #[test]
 fn waits(rt: HostRuntime) -> Result<(), Fail> {
-    check_reply(rt, 7, Answer::Waiting(Ok(1)), "7: waiting: 1")?;
-    check_reply(rt, 10, Answer::Waiting(Ok(32)), "10: waiting: 32")?;
+    check_reply(&rt, 7, Answer::Waiting(Ok(1)), "7: waiting: 1")?;
+    check_reply(&rt, 10, Answer::Waiting(Ok(32)), "10: waiting: 32")?;
     check_reply(
-        rt,
+        &rt,
         18_446_744_073_709_551_615,
         Answer::Waiting(Err(Refusal::NoStation)),
         "18446744073709551615: waiting: refused 1: no such station",
@@ -107,22 +113,22 @@ fn drawn(words: &[u32]) -> Drawn {
 fn draws(rt: HostRuntime) -> Result<(), Fail> {
     let event = drawn(&[0x1A05_0200, 0x1804_0064, 0x1805_0320, 0x1C00_0007]);
     check_reply(
-        rt,
+        &rt,
         8,
         Answer::Draw(Ok(event)),
         "8: draw: 4 words: 0x1A050200 0x18040064 0x18050320 0x1C000007",
     )?;
     let none = drawn(&[]);
-    check_reply(rt, 8, Answer::Draw(Ok(none)), "8: draw: 0 words:")?;
+    check_reply(&rt, 8, Answer::Draw(Ok(none)), "8: draw: 0 words:")?;
     let two = drawn(&[0, 0xFEDC_BA98]);
     check_reply(
-        rt,
+        &rt,
         8,
         Answer::Draw(Ok(two)),
         "8: draw: 2 words: 0x00000000 0xFEDCBA98",
     )?;
     check_reply(
-        rt,
+        &rt,
         8,
         Answer::Draw(Err(Refusal::NothingWaits)),
         "8: draw: refused 26: no event waits",
@@ -166,7 +172,7 @@ fn refusals(rt: HostRuntime) -> Result<(), Fail> {
         (Refusal::FastClear, "1: gate: refused 25: fast clear"),
         (Refusal::NothingWaits, "1: gate: refused 26: no event waits"),
     ] {
-        check_reply(rt, 1, Answer::Gate(Err(refusal)), text)?;
+        check_reply(&rt, 1, Answer::Gate(Err(refusal)), text)?;
     }
     Ok(())
 }

@@ -4,7 +4,8 @@ use script::call::{Call, Kind, Line};
 use script::parse::parse;
 use script_text::reply::Reply;
 use std::alloc::{AllocError, Global};
-use std::test::*;
+use std::process::Abort;
+use std::test::Fail;
 
 fn said_by_call(heap: Global, call: Call) -> Result<String, AllocError> {
     match call {
@@ -40,17 +41,24 @@ fn said(heap: Global, line: &[u8]) -> Result<String, AllocError> {
 }
 
 /// Each line says what stands beside it.
-pub(crate) fn check_lines(rt: HostRuntime, rows: &[(&str, &str)]) -> Result<(), Fail> {
+pub(crate) fn check_lines(
+    rt: &(impl Abort + AllocGlobal),
+    rows: &[(&str, &str)],
+) -> Result<(), Fail> {
     for (line, text) in rows {
         let told = said(rt.alloc(), line.as_bytes())?;
-        assert_eq!(told.as_str(), *text, "{}", *line);
+        assert_eq!(rt; told.as_str(), *text, "{}", *line);
     }
     Ok(())
 }
 
 /// What bytes say that are no text.
-pub(crate) fn check_bytes(rt: HostRuntime, line: &[u8], text: &str) -> Result<(), Fail> {
+pub(crate) fn check_bytes(
+    rt: &(impl Abort + AllocGlobal),
+    line: &[u8],
+    text: &str,
+) -> Result<(), Fail> {
     let told = said(rt.alloc(), line)?;
-    assert_eq!(told.as_str(), text);
+    assert_eq!(rt; told.as_str(), text);
     Ok(())
 }

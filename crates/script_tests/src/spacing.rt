@@ -1,7 +1,7 @@
 //! Spaces, tabs, comments, line ends and noise.
 
 use crate::said::{check_bytes, check_lines};
-use std::test::*;
+use std::test::Fail;
 
 const UNKNOWN: &str =
     "1: not understood: the call is unknown; expected board, gate, write, read, waiting or draw";
@@ -12,7 +12,7 @@ const NUMBER: &str =
 #[test]
 fn blank_lines(rt: HostRuntime) -> Result<(), Fail> {
     check_lines(
-        rt,
+        &rt,
         &[
             ("", "blank"),
             (" ", "blank"),
@@ -30,7 +30,7 @@ fn blank_lines(rt: HostRuntime) -> Result<(), Fail> {
 #[test]
 fn gaps(rt: HostRuntime) -> Result<(), Fail> {
     check_lines(
-        rt,
+        &rt,
         &[
             (" read 1", "read 1"),
             ("read\t1", "read 1"),
@@ -54,10 +54,10 @@ fn gaps(rt: HostRuntime) -> Result<(), Fail> {
 
 #[test]
 fn noise(rt: HostRuntime) -> Result<(), Fail> {
-    check_bytes(rt, b"\x80", UNKNOWN)?;
-    check_bytes(rt, b"\xff\xfe\x00 \x80", UNKNOWN)?;
-    check_bytes(rt, b"read \xb1", NUMBER)?;
-    check_bytes(rt, b"read 1\xa0", NUMBER)?;
-    check_bytes(rt, b"read 1 # \xff\x80", "read 1")?;
-    check_bytes(rt, b"\x00", UNKNOWN)
+    check_bytes(&rt, b"\x80", UNKNOWN)?;
+    check_bytes(&rt, b"\xff\xfe\x00 \x80", UNKNOWN)?;
+    check_bytes(&rt, b"read \xb1", NUMBER)?;
+    check_bytes(&rt, b"read 1\xa0", NUMBER)?;
+    check_bytes(&rt, b"read 1 # \xff\x80", "read 1")?;
+    check_bytes(&rt, b"\x00", UNKNOWN)
 }
