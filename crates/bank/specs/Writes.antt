@@ -1,5 +1,5 @@
 -- A write: what each register does with a value.
-use Rattle.std.specs.Prelude.{ℕ, Bool, cond, ◌&&◌, List, [], ◌∷◌, Some, None, Ok, Err, Option, Result, nat_le, slice_set}
+use Rattle.std.specs.Prelude.{ℕ, Bool, cond, List, [], ◌∷◌, Some, None, Ok, Err, Option, Result, nat_le, slice_set}
 use Rattle.front_ends.specs.Fronts.{slot_of}
 use Rattle.words.specs.Events.{Event}
 use Rattle.bits.specs.Bits.{has}
@@ -14,7 +14,7 @@ use Rattle.settings.specs.Registers.{register_at}
 use Rattle.settings.specs.Thresholds.{threshold_of}
 use Rattle.answers.specs.declared.refusal.Refusal.{Refusal}
 use Rattle.answers.specs.declared.refusal.Refusal.TheVariants.{NoRegister, Value, NothingWaits}
-use Rattle.bank.specs.Boards.{Board, Effect, Change, changed_by, power_on_mode}
+use Rattle.bank.specs.Boards.{Board, Change, changed_by, power_on_mode}
 use Rattle.bank.specs.Boards.Effect.{none, strikes_first, strikes_all}
 
 -- settings with one part changed

@@ -2,8 +2,8 @@
 use Rattle.std.proofs.Common.{◌≡◌, ℕ, zero, suc, ◌+◌, ◌-◌, ◌*◌, ◌/◌, ◌%◌, ◌^◌, ◌<◌, ◌≤◌, min, max, Bool, true, false, not, ◌&&◌, ◌||◌, eqb, sym, refl, ap, ◌∙◌, ⊎_elim, pow-suc, div-one, arith, rules}
 use native.Mathlib.Nat.{div-eq_of_lt, div_self, zero-div, mul-mod_left}
 use lib.Bits.{bit_or, bit_and, or_step, and_step}
-use Rattle.std.proofs.lemmas.Nat.{or_shr, and_shr, shl-shr, shr-shr, one_shl, pow-add, pow_below, pow_pos, and_mask, mod_below}
-use Rattle.std.proofs.lemmas.Bool.{cases_lt, cases_eq, eq-eqb, eqb-true, cases_Bool}
+use Rattle.std.proofs.lemmas.Nat.{or_shr, and_shr, shl-shr, shr-shr, one_shl, pow-add, pow_below, pow_pos, mod_below}
+use Rattle.std.proofs.lemmas.Bool.{cases_lt}
 use Rattle.bits.specs.Bits.{has}
 
 -- a number below 2 is 0 or 1

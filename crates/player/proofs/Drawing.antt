@@ -1,10 +1,10 @@
 -- A draw into the first words of a block.
-use Rattle.std.proofs.Common.{◌≡◌, ℕ, zero, suc, ◌+◌, ◌≤◌, Bool, true, false, cond, ltb, List, [], ◌∷◌, ◌++◌, length, get_or, take, drop, sym, refl, ap, ◌∙◌, ⊎_elim, arith}
+use Rattle.std.proofs.Common.{◌≡◌, ℕ, zero, suc, ◌≤◌, true, false, ltb, List, [], ◌∷◌, ◌++◌, length, take, drop, refl, ap, ◌∙◌, ⊎_elim, arith}
 use Rattle.std.specs.List.{AllByRecursion as All}
 use Rattle.std.proofs.ByRecursion.{All-get_or}
 use Rattle.std.proofs.lemmas.List.{append_assoc, take-append-drop, length_push, length-map}
-use Rattle.std.proofs.lemmas.Bool.{cases_Bool, ltb-true, ltb-false}
-use Rattle.words.specs.Events.{Event, Lawful, words, data_words, datum_word, end_word}
+use Rattle.std.proofs.lemmas.Bool.{cases_Bool, ltb-false}
+use Rattle.words.specs.Events.{Event, Lawful, data_words, datum_word, end_word}
 use Rattle.words.specs.Spaces.{onto}
 use Rattle.bank.specs.Banks.{reached, board_at, asked}
 use Rattle.bank.specs.Boards.{Board, LawfulBoard, no_board}

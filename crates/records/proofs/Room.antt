@@ -1,11 +1,10 @@
 -- The program has room for every run.
-use Rattle.std.proofs.Common.{◌≡◌, ℕ, ◌+◌, ◌*◌, ◌≤◌, List, length, sym, subst}
+use Rattle.std.proofs.Common.{◌≡◌, ℕ, List, length, sym, subst}
 use Rattle.words.specs.Spaces.{onto}
 use Rattle.front_ends.specs.Fronts.{Front}
 use Rattle.transcript.specs.declared.outcome.Transcript.{Transcript}
-use Rattle.transcript.specs.Laws.{Faithful, NeverCramped}
+use Rattle.transcript.specs.Laws.{Faithful}
 use Rattle.transcript.specs.Outcomes.{converted, told}
-use Rattle.transcript.proofs.Faith.{never_cramped}
 use Rattle.records.specs.declared.Board.{Board}
 use Rattle.records.specs.Boards.{front_of}
 

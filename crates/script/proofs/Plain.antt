@@ -1,12 +1,12 @@
 -- Lines that are written plainly.
-use Rattle.std.proofs.Common.{◌≡◌, ℕ, zero, suc, ◌-◌, ◌<◌, true, false, cond, eqb, List, [], ◌∷◌, ◌++◌, length, get_or, Result, sym, refl, ap, ◌∙◌, arith}
+use Rattle.std.proofs.Common.{◌≡◌, ℕ, zero, suc, ◌-◌, true, false, cond, eqb, List, [], ◌∷◌, ◌++◌, length, get_or, Result, refl, ap, ◌∙◌, arith}
 use Rattle.std.specs.List.{AllByRecursion as All}
 use Rattle.script.specs.declared.call.Line.{Line}
 use Rattle.script.specs.declared.mistake.Mistake.{Mistake}
 use Rattle.script.specs.declared.parts.Stop.TheVariants.{Gap, At}
 use Rattle.script.specs.Laws.{Inner, Part, spaced, plain_line, Plainly}
 use Rattle.script.specs.Lines.{line_of, parsed}
-use Rattle.script.specs.Parts.{gap, before, onward, begins_part, gap_first, parts, unreturned}
+use Rattle.script.specs.Parts.{before, onward, begins_part, gap_first, parts, unreturned}
 use Rattle.script.proofs.Scanning.{grows}
 
 -- a byte that ends neither what the line says nor the line

@@ -1,5 +1,5 @@
 -- Thresholds whose levels fit.
-use Rattle.std.proofs.Common.{◌≡◌, ℕ, zero, suc, ◌<◌, true, ltb, List, [], ◌∷◌, set, Some, refl, rules}
+use Rattle.std.proofs.Common.{◌≡◌, ℕ, zero, suc, true, ltb, List, [], ◌∷◌, set, Some, refl, rules}
 use Rattle.std.proofs.lemmas.Bool.{and_parts, and_from}
 use Rattle.settings.specs.declared.threshold.Threshold.{Threshold}
 use Rattle.settings.specs.Thresholds.{levels_in_range, threshold_of}

@@ -1,5 +1,5 @@
 -- A word and its parts, there and back.
-use Rattle.std.proofs.Common.{◌≡◌, ℕ, ◌+◌, ◌*◌, ◌/◌, ◌%◌, ◌^◌, ◌<◌, Bool, true, false, cond, ◌&&◌, Ok, Err, Result, sym, refl, ap, ◌∙◌, rules}
+use Rattle.std.proofs.Common.{◌≡◌, ℕ, ◌^◌, ◌<◌, true, Ok, Err, rules}
 use Rattle.words.specs.declared.fault.Due.TheVariants as due
 use Rattle.words.specs.declared.fault.Spot.{Spot}
 use Rattle.words.specs.declared.fault.WordFault.{WordFault}

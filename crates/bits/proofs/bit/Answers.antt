@@ -1,4 +1,4 @@
-use Rattle.std.proofs.Common.{ℕ, ◌/◌, ◌^◌, eqb, sym, ap, ◌∙◌, rules}
+use Rattle.std.proofs.Common.{◌/◌, ◌^◌, eqb, ap, rules}
 use Rattle.std.proofs.lemmas.Nat.{and_mask}
 use Rattle.bits.specs.Bits.{has}
 use Rattle.bits.proofs.BitLaws.{has_past}

@@ -1,5 +1,4 @@
-use Rattle.std.proofs.Common.{◌≡◌, true, sym, ap, ◌∙◌, rules}
-use Rattle.bits.specs.Bits.{has}
+use Rattle.std.proofs.Common.{rules}
 use Rattle.settings.proofs.ModeLaws.{auto_incr_unnamed}
 use Rattle.board.proofs.board.Board.clear_mode.Goals as goal
 

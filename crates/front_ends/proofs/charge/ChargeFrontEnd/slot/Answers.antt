@@ -1,4 +1,4 @@
-use Rattle.std.proofs.Common.{◌≡◌, ℕ, List, [], ◌∷◌, sym, refl}
+use Rattle.std.proofs.Common.{ℕ, List, [], ◌∷◌, refl}
 use Rattle.front_ends.specs.Kinds.{charge_tags}
 use Rattle.front_ends.specs.KindLaws.{charge_found, charge_fit}
 use Rattle.front_ends.specs.Slots.{stands_at, nowhere, turned}

@@ -1,4 +1,4 @@
-use Rattle.std.proofs.Common.{◌≡◌, Some, sym, ap}
+use Rattle.std.proofs.Common.{Some, sym, ap}
 use Rattle.std.proofs.lemmas.Bool.{lt-ltb}
 use Rattle.front_ends.specs.KindLaws.{time_same}
 use Rattle.front_ends.proofs.time.TimeFrontEnd.tag.Goals as goal
