@@ -1,6 +1,6 @@
 -- A board: its front end, its settings, its counter of 24 bits, and the events that wait, first to be drawn first.
 use Rattle.std.specs.Prelude.{◌≡◌, ℕ, ◌+◌, ◌%◌, ◌^◌, ◌<◌, ◌≤◌, true, false, List, [], ◌∷◌, ◌++◌, length, drop, replicate}
-use Rattle.std.specs.List.{AllByRecursion as All}
+use Rattle.std.specs.List.{AllByRecursion}
 use Rattle.front_ends.specs.Fronts as fronts
 use Rattle.front_ends.specs.Kinds.{time}
 use Rattle.words.specs.Events as events
@@ -75,4 +75,4 @@ pub record LawfulBoard (b : Board) : Type 0 where
   pub counter_fits : b.counter < 2 ^ 24
   pub auto_incr : stands AutoIncr b.settings.mode ≡ true
   pub few : length b.waiting ≤ 32
-  pub events_lawful : All events.Lawful b.waiting
+  pub events_lawful : AllByRecursion events.Lawful b.waiting

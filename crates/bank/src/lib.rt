@@ -2,7 +2,7 @@
 #![tactic(auto)]
 
 ghost use Rattle.std.specs.Prelude.{◌≡◌, ◌≤◌, List, length, Err};
-ghost use Rattle.std.specs.List.{AllByRecursion as All};
+ghost use Rattle.std.specs.List.{AllByRecursion};
 ghost use Rattle.answers.specs.declared.refusal.Refusal.TheVariants.{NoStation};
 ghost use Rattle.bank.specs.Banks.{reached, asked, changed};
 ghost use Rattle.bank.specs.Boards.{Board, LawfulBoard};
@@ -49,5 +49,5 @@ pub trait Bank {
 
     ghost some: { (b : Self) → 1 ≤ length (boards b) };
 
-    ghost lawful: { (b : Self) → All LawfulBoard (boards b) };
+    ghost lawful: { (b : Self) → AllByRecursion LawfulBoard (boards b) };
 }

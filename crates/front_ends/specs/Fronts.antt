@@ -1,6 +1,6 @@
 -- What a front end means: the part of a converter that the rules of boards, records and readers depend on.
 use Rattle.std.specs.Prelude.{◌≡◌, ℕ, suc, ◌<◌, ◌≤◌, Bool, cond, List, [], ◌∷◌, length, Some, None, Option, ◌==◌, ◌≢◌, nat_lt, slice_index}
-use Rattle.std.specs.List.{AllByRecursion as All}
+use Rattle.std.specs.List.{AllByRecursion}
 use Rattle.std.specs.Option.{option_map}
 use Rattle.front_ends.specs.declared.step.Step.{Step}
 
@@ -19,7 +19,7 @@ Apart ts = (i j : ℕ) → i < length ts → j < length ts → slice_index ts i 
 pub record Lawful (f : Front) : Type 0 where
   pub some : 1 ≤ length f.tags
   pub few : length f.tags ≤ 32
-  pub fit : All (λ t. t < 32) f.tags
+  pub fit : AllByRecursion (λ t. t < 32) f.tags
   pub apart : Apart f.tags
   pub floors : (s : Step) (t : ℕ) → t ≤ 255 → f.floor s t ≤ 65535
 

@@ -1,7 +1,7 @@
 -- Tags and slots.
 use Rattle.std.specs.Prelude.{◌≡◌, ℕ, zero, suc, ◌<◌, ◌≤◌, Bool, true, false, ◌&&◌, List, [], ◌∷◌, length, Some, None, Option, ◌==◌, ◌≢◌, nat_eq, nat_lt, slice_index, slice_index_or, refl}
 use Rattle.std.proofs.Common.{sym, ap, subst, ◌∙◌, ⊎_elim, arith, le_of_suc-le-suc, not-suc-le-zero}
-use Rattle.std.specs.List.{AllByRecursion as All}
+use Rattle.std.specs.List.{AllByRecursion}
 use Rattle.std.specs.Option.{option_map}
 use Rattle.std.proofs.lemmas.Bool.{cases_Bool, and_parts, eqb-true, eqb-false, ltb-true, ne_eqb}
 use Rattle.front_ends.specs.Fronts.{Apart, place_of, Stands}
@@ -28,7 +28,7 @@ pub stands_at : (t : ℕ) (ts : List ℕ) (r : Option ℕ) → r ≡ place_of t 
 stands_at t ts r e = subst (λ (x : Option ℕ). Stands t ts x) (sym e) (stands t ts)
 
 -- a tag past all is nowhere
-pub nowhere : (t : ℕ) (ts : List ℕ) → All (λ u. u < 32) ts → 32 ≤ t → None ≡ place_of t ts
+pub nowhere : (t : ℕ) (ts : List ℕ) → AllByRecursion (λ u. u < 32) ts → 32 ≤ t → None ≡ place_of t ts
 nowhere t [] h l = refl
 nowhere t (u ∷ us) h l = rw (ne_eqb u t (omega (arith, h.0))) (ap (option_map suc) (nowhere t us h.1 l))
 

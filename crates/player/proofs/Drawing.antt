@@ -1,6 +1,6 @@
 -- A draw into the first words of a block.
 use Rattle.std.proofs.Common.{◌≡◌, ℕ, zero, suc, ◌≤◌, true, false, ltb, List, [], ◌∷◌, ◌++◌, length, take, drop, refl, ap, ◌∙◌, ⊎_elim, arith}
-use Rattle.std.specs.List.{AllByRecursion as All}
+use Rattle.std.specs.List.{AllByRecursion}
 use Rattle.std.proofs.ByRecursion.{All-get_or}
 use Rattle.std.proofs.lemmas.List.{append_assoc, take-append-drop, length_push, length-map}
 use Rattle.std.proofs.lemmas.Bool.{cases_Bool, ltb-false}
@@ -22,12 +22,12 @@ onto_part : (xs d : List ℕ) (n : ℕ) → length xs ≤ n → onto xs (take n 
 onto_part xs d n l = append_assoc xs (drop (length xs) (take n d)) (drop n d) ∙ ap (λ t. xs ++ t) (drop_part (length xs) n d l)
 
 -- no lawful event has more than 34 words
-first_few : (ws : List Event) → All Lawful ws → length (first_words ws) ≤ 34
+first_few : (ws : List Event) → AllByRecursion Lawful ws → length (first_words ws) ≤ 34
 first_few [] h = omega arith
 first_few (e ∷ es) h =
     omega (arith, h.0.few, length_push (data_words e) (end_word e.geo e.number), length-map e.readings (datum_word e.geo))
 
-at_board : (b : Board) (d : List ℕ) (n : ℕ) → All Lawful b.waiting → length (take n d) ≡ n → block_drawn (take n d) b ++ drop n d ≡ block_into n d b
+at_board : (b : Board) (d : List ℕ) (n : ℕ) → AllByRecursion Lawful b.waiting → length (take n d) ≡ n → block_drawn (take n d) b ++ drop n d ≡ block_into n d b
 at_board b d n law l =
     rw l
     (⊎_elim
@@ -36,7 +36,7 @@ at_board b d n law l =
     (cases_Bool (short n)))
 
 -- what a draw leaves of the whole block
-pub block_whole : (bs : List Board) (d after : List ℕ) (n : ℕ) → 1 ≤ length bs → All LawfulBoard bs → length (take n d) ≡ n → after ≡ asked (block_drawn (take n d)) (take n d) bs 0
+pub block_whole : (bs : List Board) (d after : List ℕ) (n : ℕ) → 1 ≤ length bs → AllByRecursion LawfulBoard bs → length (take n d) ≡ n → after ≡ asked (block_drawn (take n d)) (take n d) bs 0
     → after ++ drop n d ≡ asked (block_into n d) d bs 0
 block_whole bs d after n some law l h =
     ap (λ t. t ++ drop n d) h

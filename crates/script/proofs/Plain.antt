@@ -1,6 +1,6 @@
 -- Lines that are written plainly.
 use Rattle.std.proofs.Common.{◌≡◌, ℕ, zero, suc, ◌-◌, true, false, cond, eqb, List, [], ◌∷◌, ◌++◌, length, get_or, Result, refl, ap, ◌∙◌, arith}
-use Rattle.std.specs.List.{AllByRecursion as All}
+use Rattle.std.specs.List.{AllByRecursion}
 use Rattle.script.specs.declared.call.Line.{Line}
 use Rattle.script.specs.declared.mistake.Mistake.{Mistake}
 use Rattle.script.specs.declared.parts.Stop.TheVariants.{Gap, At}
@@ -13,12 +13,12 @@ use Rattle.script.proofs.Scanning.{grows}
 abbrev Said : ℕ → Type 0
 Said c = (eqb c 35 ≡ false) × (eqb c 13 ≡ false)
 
-before_gap : (cs rest : List ℕ) → All Inner cs → gap_first rest ≡ true → before Gap (cs ++ rest) ≡ cs
+before_gap : (cs rest : List ℕ) → AllByRecursion Inner cs → gap_first rest ≡ true → before Gap (cs ++ rest) ≡ cs
 before_gap [] [] a g = refl
 before_gap [] (d ∷ ds) a g = simp g
 before_gap (c ∷ cs) rest a g = let e = a.0.0 in simp e (ap (λ (t : List ℕ). c ∷ t) (before_gap cs rest a.1 g))
 
-from_gap : (cs rest : List ℕ) → All Inner cs → gap_first rest ≡ true → onward Gap (cs ++ rest) ≡ rest
+from_gap : (cs rest : List ℕ) → AllByRecursion Inner cs → gap_first rest ≡ true → onward Gap (cs ++ rest) ≡ rest
 from_gap [] [] a g = refl
 from_gap [] (d ∷ ds) a g = simp g
 from_gap (c ∷ cs) rest a g = let e = a.0.0 in simp e (from_gap cs rest a.1 g)
@@ -37,31 +37,31 @@ spaced_first : (ps : List (List ℕ)) → gap_first (spaced ps) ≡ true
 spaced_first [] = refl
 spaced_first (p ∷ ps) = refl
 
-spaced_parts : (ps : List (List ℕ)) → All Part ps → parts (spaced ps) ≡ ps
+spaced_parts : (ps : List (List ℕ)) → AllByRecursion Part ps → parts (spaced ps) ≡ ps
 spaced_parts [] a = refl
 spaced_parts (p ∷ ps) a = one_part p (spaced ps) a.0 (spaced_first ps) ∙ ap (λ (t : List (List ℕ)). p ∷ t) (spaced_parts ps a.1)
 
-line_parts : (ps : List (List ℕ)) → All Part ps → parts (plain_line ps) ≡ ps
+line_parts : (ps : List (List ℕ)) → AllByRecursion Part ps → parts (plain_line ps) ≡ ps
 line_parts [] a = refl
 line_parts (p ∷ ps) a = spaced_parts (p ∷ ps) a
 
-said_after : (p rest : List ℕ) → All Inner p → All Said rest → All Said (p ++ rest)
+said_after : (p rest : List ℕ) → AllByRecursion Inner p → AllByRecursion Said rest → AllByRecursion Said (p ++ rest)
 said_after [] rest a b = b
 said_after (c ∷ cs) rest a b = ((a.0.1, a.0.2), said_after cs rest a.1 b)
 
-said_spaced : (ps : List (List ℕ)) → All Part ps → All Said (spaced ps)
+said_spaced : (ps : List (List ℕ)) → AllByRecursion Part ps → AllByRecursion Said (spaced ps)
 said_spaced [] a = tt
 said_spaced (p ∷ ps) a = ((refl, refl), said_after p (spaced ps) a.0.1 (said_spaced ps a.1))
 
-said_line : (ps : List (List ℕ)) → All Part ps → All Said (plain_line ps)
+said_line : (ps : List (List ℕ)) → AllByRecursion Part ps → AllByRecursion Said (plain_line ps)
 said_line [] a = tt
 said_line (p ∷ ps) a = said_after p (spaced ps) a.0.1 (said_spaced ps a.1)
 
-uncommented : (bs : List ℕ) → All Said bs → before (At 35) bs ≡ bs
+uncommented : (bs : List ℕ) → AllByRecursion Said bs → before (At 35) bs ≡ bs
 uncommented [] a = refl
 uncommented (c ∷ cs) a = let e = a.0.0 in simp e (ap (λ (t : List ℕ). c ∷ t) (uncommented cs a.1))
 
-no_return : (bs : List ℕ) (i : ℕ) → All Said bs → eqb (get_or bs i 0) 13 ≡ false
+no_return : (bs : List ℕ) (i : ℕ) → AllByRecursion Said bs → eqb (get_or bs i 0) 13 ≡ false
 no_return [] i a = refl
 no_return (c ∷ cs) zero a = a.0.1
 no_return (c ∷ cs) (suc i) a = no_return cs i a.1
