@@ -9,6 +9,32 @@ use front_ends::time::Time;
 use reader_tests::pair::Pair;
 use std::process::Abort;
 
+/// Every gate at the station is refused by number 1.
+fn refuses_gates<B: Bank>(rt: &impl Abort, bank: &mut B, station: usize) {
+    for signal in [0, 1, 2, 3, 255] {
+        assert_eq!(rt;
+            gate_at(bank, station, signal, &[100; 2]),
+            Err(1),
+            "station {station}"
+        );
+        assert_eq!(rt;
+            gate_at(bank, station, signal, &[100; 32]),
+            Err(1),
+            "station {station}"
+        );
+        assert_eq!(rt;
+            gate_at(bank, station, signal, &[0x2000; 33]),
+            Err(1),
+            "station {station}"
+        );
+        assert_eq!(rt;
+            gate_at(bank, station, signal, &[]),
+            Err(1),
+            "station {station}"
+        );
+    }
+}
+
 /// Every call at the station is refused by number 1, whatever else is wrong with it, and changes nothing.
 fn is_no_station<B: Bank>(rt: &impl Abort, bank: &mut B, station: usize) {
     let before = Seen::of(bank);
@@ -40,28 +66,7 @@ fn is_no_station<B: Bank>(rt: &impl Abort, bank: &mut B, station: usize) {
             );
         }
     }
-    for signal in [0, 1, 2, 3, 255] {
-        assert_eq!(rt;
-            gate_at(bank, station, signal, &[100; 2]),
-            Err(1),
-            "station {station}"
-        );
-        assert_eq!(rt;
-            gate_at(bank, station, signal, &[100; 32]),
-            Err(1),
-            "station {station}"
-        );
-        assert_eq!(rt;
-            gate_at(bank, station, signal, &[0x2000; 33]),
-            Err(1),
-            "station {station}"
-        );
-        assert_eq!(rt;
-            gate_at(bank, station, signal, &[]),
-            Err(1),
-            "station {station}"
-        );
-    }
+    refuses_gates(rt, bank, station);
     assert_eq!(rt; Seen::of(bank), before, "station {station}");
 }
 
