@@ -29,8 +29,8 @@ impl PackRefusal {
 }
 
 fn put_words(bytes: &[u8], count: usize, space: &mut [u32])
-    requires count_in_bounds { 4 * count ≤ length bytes.now }
-    requires count_in_bounds_2 { count ≤ length space.old }
+    requires bytes_there { 4 * count ≤ length bytes.now }
+    requires room { count ≤ length space.old }
     ensures { space.new ≡ onto (packed bytes.now count) space.old }
 {
     for i in 0..count {
