@@ -5,7 +5,7 @@ ghost use Rattle.bank.specs.Boards.{power_on};
 ghost use Rattle.buffer.specs.Buffers.{AtStart};
 ghost use Rattle.board.specs.Played.{board_of};
 ghost use Rattle.buffer.proofs.Lawfulness.{events_lawful, events_few};
-ghost use Rattle.std.proofs.Common.{rules, arith};
+ghost use Rattle.std.proofs.Common.{lit≤};
 
 use crate::board::Board;
 use answers::gated::Gated;
@@ -33,7 +33,7 @@ impl<F: FrontEnd> Board<F> {
 impl<F: FrontEnd> Bank for Board<F> {
     ghost boards = { λ b. board_of F.FrontEnd.meaning b ∷ [] };
 
-    ghost some = { first_of (Prim.search rules, Prim.grind (arith, Self.row.coded.inj)) };
+    ghost some = { λ _. lit≤ tt };
 
     ghost lawful = { λ b.
         let front = F.FrontEnd.lawful b.front in
