@@ -1,5 +1,4 @@
-//! What a bank of boards answers to a call, and the refusals with their numbers.
+//! The refusals of a bank of boards, with their numbers.
 #![tactic(auto)]
 
-pub mod gated;
 pub mod refusal;

@@ -1,11 +1,14 @@
 //! Why a call is turned away.
 
-ghost use Rattle.std.specs.Prelude.{◌≡◌};
-ghost use Rattle.answers.specs.Refusals.{number_of};
+ghost use Rattle.std.specs.Prelude.{◌≡◌, Some};
+ghost use Rattle.answers.specs.Refusals.{number_of, cause_of, refused_text};
+
+use std::error::Error;
+use std::fmt;
 
 /// The reasons for which a bank turns a call away. What is turned away changes nothing, but for a gate that is
 /// counted all the same.
-#[derive(Clone, Copy)]
+#[derive(Clone, Copy, Debug, PartialEq, Eq)]
 pub enum Refusal {
     /// The station is not below the answered number of stations.
     NoStation,
@@ -57,3 +60,43 @@ impl Refusal {
         }
     }
 }
+
+/// Why a call is turned away, without the number.
+#[derive(Clone, Copy)]
+struct Cause(Refusal);
+
+impl fmt::Display for Cause {
+    ghost output = { λ x. Some (cause_of x.0) };
+
+    fn fmt<W: fmt::Write>(&self, f: &mut fmt::Formatter<W>) -> fmt::Result {
+        f.write_str(match self.0 {
+            Refusal::NoStation => "no such station",
+            Refusal::ReadingCount => "not one reading for each slot",
+            Refusal::ReadingBits => "a reading exceeds 8191",
+            Refusal::UnknownSignal => "the signal is not 0, 1 or 2",
+            Refusal::NoRegister => "no such register for this access",
+            Refusal::Value => {
+                "the value exceeds its limit or names a mode bit that the board lacks"
+            }
+            Refusal::BlockShort => "the block is under 34 words",
+            Refusal::Veto => "veto",
+            Refusal::ClearData => "mode bit CLEAR DATA stands",
+            Refusal::Offline => "mode bit OFFLINE stands",
+            Refusal::Full => "32 events wait",
+            Refusal::FastClear => "fast clear",
+            Refusal::NothingWaits => "no event waits",
+        })
+    }
+}
+
+impl fmt::Display for Refusal {
+    ghost output = { λ x. Some (refused_text x) };
+
+    fn fmt<W: fmt::Write>(&self, f: &mut fmt::Formatter<W>) -> fmt::Result {
+        let number = self.number();
+        let cause = Cause(*self);
+        write!(f, "refused {number}: {cause}")
+    }
+}
+
+impl Error for Refusal {}

@@ -62,7 +62,7 @@ pub record Change : Type 0 where
   pub effect : Effect
 
 abbrev pub changed_by : Change → Board → Board
-changed_by c b = record { front = b.front; settings = c.settings; counter = c.counter; waiting = after (λ e. e) c.effect b.waiting }
+changed_by c b = record b { settings = c.settings; counter = c.counter; waiting = after (λ e. e) c.effect b.waiting }
 
 -- each setting fits its register, no slot lacks a threshold, AUTO INCR stands, and every waiting event is lawful
 pub record LawfulBoard (b : Board) : Type 0 where

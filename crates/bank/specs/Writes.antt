@@ -19,16 +19,16 @@ use Rattle.bank.specs.Boards.Effect.{none, strikes_first, strikes_all}
 
 -- settings with one part changed
 abbrev pub with_geo : ℕ → Settings → Settings
-with_geo v s = record { mode = s.mode; geo = v; crate_number = s.crate_number; thresholds = s.thresholds }
+with_geo v s = record s { geo = v }
 
 abbrev pub with_crate : ℕ → Settings → Settings
-with_crate v s = record { mode = s.mode; geo = s.geo; crate_number = v; thresholds = s.thresholds }
+with_crate v s = record s { crate_number = v }
 
 abbrev pub with_mode : Mode → Settings → Settings
-with_mode m s = record { mode = m; geo = s.geo; crate_number = s.crate_number; thresholds = s.thresholds }
+with_mode m s = record s { mode = m }
 
 abbrev pub with_threshold : ℕ → Threshold → Settings → Settings
-with_threshold i t s = record { mode = s.mode; geo = s.geo; crate_number = s.crate_number; thresholds = slice_set s.thresholds i t }
+with_threshold i t s = record s { thresholds = slice_set s.thresholds i t }
 
 -- only the settings change
 abbrev pub sets : Settings → Board → Change

@@ -11,7 +11,6 @@ ghost use Rattle.bank.specs.Gates.{gate_answer, gated};
 ghost use Rattle.bank.specs.Reads.{read_answer};
 ghost use Rattle.bank.specs.Writes.{write_answer, written};
 
-use answers::gated::Gated;
 use answers::refusal::Refusal;
 
 /// Every kind of bank means a list of boards. Each call does to the board of its station what the rules say, and
@@ -23,8 +22,9 @@ pub trait Bank {
     fn stations(&self) -> usize
         ensures { result ≡ reached (boards self.now) };
 
-    /// A gate brings a reading for each slot, in slot order, and a signal: 0 none, 1 veto, 2 fast clear.
-    fn gate(&mut self, station: usize, signal: u8, readings: &[u16]) -> Result<Gated, Refusal>
+    /// A gate brings a reading for each slot, in slot order, and a signal: 0 none, 1 veto, 2 fast clear. Answers how many
+    /// readings the stored event keeps, or none where nothing is stored (and then nothing is kept).
+    fn gate(&mut self, station: usize, signal: u8, readings: &[u16]) -> Result<Option<u8>, Refusal>
         ensures says { result ≡ asked (gate_answer signal readings.now) (Err NoStation) (boards self.old) station }
         ensures leaves { boards self.new ≡ changed (gated signal readings.now) (boards self.old) station };
 

@@ -11,7 +11,7 @@ use std::test::Fail;
 
 /// A gate stores an event of the counts n and 4095 - n.
 fn stores<B: Bank>(rt: &impl Abort, bank: &mut B, n: u16) {
-    gates(rt, bank, 0, &[n % 4096, 4095 - n % 4096], Ok((true, 2)));
+    gates(rt, bank, 0, &[n % 4096, 4095 - n % 4096], Ok(Some(2)));
 }
 
 /// That event comes, with this number.
@@ -60,7 +60,7 @@ fn a_full_buffer_takes_no_gate(rt: HostRuntime) {
     }
     gates(&rt, &mut board, 0, &[0x1000; 2], Err(24));
     writes(&rt, &mut board, SKIP, 0);
-    gates(&rt, &mut board, 0, &[0x1000; 2], Ok((false, 0)));
+    gates(&rt, &mut board, 0, &[0x1000; 2], Ok(None));
     waits(&rt, &board, 31);
     stores(&rt, &mut board, 50);
     gates(&rt, &mut board, 0, &[1, 1], Err(24));
@@ -92,10 +92,10 @@ fn the_buffer_goes_round(rt: HostRuntime) {
 /// Under EMPTY every gate stores an event: here of both readings, of the first, of the second, or of none.
 fn stores_some<B: Bank>(rt: &impl Abort, bank: &mut B, n: u16) {
     match n % 5 {
-        1 => gates(rt, bank, 0, &[n, 0x1000], Ok((true, 1))),
-        2 => gates(rt, bank, 0, &[0x1000, n], Ok((true, 1))),
-        3 => gates(rt, bank, 0, &[0x1000, 0x1000], Ok((true, 0))),
-        _ => gates(rt, bank, 0, &[n, n], Ok((true, 2))),
+        1 => gates(rt, bank, 0, &[n, 0x1000], Ok(Some(1))),
+        2 => gates(rt, bank, 0, &[0x1000, n], Ok(Some(1))),
+        3 => gates(rt, bank, 0, &[0x1000, 0x1000], Ok(Some(0))),
+        _ => gates(rt, bank, 0, &[n, n], Ok(Some(2))),
     }
 }
 
@@ -148,7 +148,7 @@ fn no_gate_touches_what_waits(rt: HostRuntime) {
         gates(&rt, &mut board, 1, &[7, 7], Err(21));
         gates(&rt, &mut board, 2, &[7, 7], Err(25));
     }
-    gates(&rt, &mut board, 0, &[0x1007, 0x1007], Ok((false, 0)));
+    gates(&rt, &mut board, 0, &[0x1007, 0x1007], Ok(None));
     waits(&rt, &board, 31);
     for n in 20..51 {
         draws_numbered(&rt, &mut board, n, u32::from(n));
@@ -178,7 +178,7 @@ fn blocks_for_an_event(rt: HostRuntime) {
         datum(31, 9, 20),
         end(31, 0),
     ];
-    gates(&rt, &mut board, 0, &[10, 20], Ok((true, 2)));
+    gates(&rt, &mut board, 0, &[10, 20], Ok(Some(2)));
     draws_into(&rt, &mut board, &mut [], Err(8), &[]);
     draws_into(&rt, &mut board, &mut [0; 4], Err(8), &[]);
     draws_into(&rt, &mut board, &mut [0; 33], Err(8), &[]);
@@ -195,11 +195,11 @@ fn blocks_for_the_longest_event(rt: HostRuntime) -> Result<(), Fail> {
         words.push(datum(31, tag, 4095))?;
     }
     words.push(end(31, 0))?;
-    gates(&rt, &mut board, 0, &[4095; 32], Ok((true, 32)));
+    gates(&rt, &mut board, 0, &[4095; 32], Ok(Some(32)));
     draws_into(&rt, &mut board, &mut [0; 33], Err(8), &[]);
     draws_into(&rt, &mut board, &mut [0; 34], Ok(34), &words);
     writes(&rt, &mut board, COUNTER_RESET, 0);
-    gates(&rt, &mut board, 0, &[4095; 32], Ok((true, 32)));
+    gates(&rt, &mut board, 0, &[4095; 32], Ok(Some(32)));
     draws_into(&rt, &mut board, &mut [0; 35], Ok(34), &words);
     draws_nothing(&rt, &mut board);
     Ok(())

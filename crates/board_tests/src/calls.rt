@@ -2,6 +2,7 @@
 
 use answers::refusal::Refusal;
 use bank::Bank;
+use std::array;
 use std::process::Abort;
 use std::test::Fail;
 
@@ -58,10 +59,7 @@ pub(crate) const BLANK: u32 = 0xAAAA_AAAA;
 
 /// The answer, a refusal by its number.
 fn told<T: Copy>(answer: Result<T, Refusal>) -> Result<T, u8> {
-    match answer {
-        Ok(said) => Ok(said),
-        Err(refusal) => Err(refusal.number()),
-    }
+    answer.map_err(Refusal::number)
 }
 
 /// What a read at a station answers.
@@ -79,17 +77,14 @@ pub(crate) fn write_at<B: Bank>(
     told(bank.write(station, offset, value))
 }
 
-/// What a gate at a station answers: whether it stored an event, and how many readings were kept.
+/// What a gate at a station answers: how many readings were kept, or none where it stored no event.
 pub(crate) fn gate_at<B: Bank>(
     bank: &mut B,
     station: usize,
     signal: u8,
     readings: &[u16],
-) -> Result<(bool, u8), u8> {
-    match bank.gate(station, signal, readings) {
-        Ok(gated) => Ok((gated.stored, gated.kept)),
-        Err(refusal) => Err(refusal.number()),
-    }
+) -> Result<Option<u8>, u8> {
+    told(bank.gate(station, signal, readings))
 }
 
 /// What a station answers to waiting.
@@ -137,7 +132,7 @@ pub(crate) fn gates<B: Bank>(
     bank: &mut B,
     signal: u8,
     readings: &[u16],
-    expected: Result<(bool, u8), u8>,
+    expected: Result<Option<u8>, u8>,
 ) {
     assert_eq!(rt;
         gate_at(bank, 0, signal, readings),
@@ -183,35 +178,22 @@ pub(crate) fn draws_nothing<B: Bank>(rt: &impl Abort, bank: &mut B) {
     draws_into(rt, bank, &mut [0; 34], Err(26), &[]);
 }
 
-/// What waiting and every register that can be read answer. 0xFFFF stands for a refusal.
+/// What waiting and every register that can be read answer.
 #[derive(Clone, Copy, PartialEq, Debug)]
 pub(crate) struct Seen {
-    waiting: usize,
-    registers: [u16; 6],
-    thresholds: [u16; 32],
-}
-
-fn shown<B: Bank>(bank: &B, offset: u16) -> u16 {
-    read_at(bank, 0, offset).unwrap_or(0xFFFF)
+    waiting: Result<usize, u8>,
+    registers: [Result<u16, u8>; 6],
+    thresholds: [Result<u16, u8>; 32],
 }
 
 impl Seen {
     pub(crate) fn of<B: Bank>(bank: &B) -> Seen {
-        let mut thresholds = [0; 32];
-        for tag in 0..32u16 {
-            thresholds[tag as usize] = shown(bank, THRESHOLDS + 2 * tag);
-        }
         Seen {
-            waiting: waiting_at(bank, 0).unwrap_or(usize::MAX),
-            registers: [
-                shown(bank, GEO),
-                shown(bank, STATUS),
-                shown(bank, COUNTER_LOW),
-                shown(bank, COUNTER_HIGH),
-                shown(bank, MODE),
-                shown(bank, CRATE),
-            ],
-            thresholds,
+            waiting: waiting_at(bank, 0),
+            registers: [GEO, STATUS, COUNTER_LOW, COUNTER_HIGH, MODE, CRATE].map(|offset| read_at(
+                bank, 0, offset,
+            )),
+            thresholds: array::from_fn(|tag| read_at(bank, 0, THRESHOLDS + 2 * tag as u16)),
         }
     }
 }

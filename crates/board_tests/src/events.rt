@@ -7,16 +7,13 @@ use board::board::Board;
 use front_ends::charge::Charge;
 use front_ends::time::Time;
 use reader_tests::pair::Pair;
+use std::array;
 use std::process::Abort;
 use std::test::Fail;
 
 /// Slot i reads 100 + i.
 fn slot_counts() -> [u16; 32] {
-    let mut readings = [0; 32];
-    for i in 0..32u16 {
-        readings[i as usize] = 100 + i;
-    }
-    readings
+    array::from_fn(|i| 100 + i as u16)
 }
 
 fn kills_all<B: Bank>(rt: &impl Abort, bank: &mut B) {
@@ -41,7 +38,7 @@ fn two_readings(rt: HostRuntime) {
     let mut readings = [2000; 32];
     readings[4] = 100;
     readings[5] = 800;
-    gates(&rt, &mut board, 0, &readings, Ok((true, 2)));
+    gates(&rt, &mut board, 0, &readings, Ok(Some(2)));
     draws(
         &rt,
         &mut board,
@@ -57,14 +54,14 @@ fn settings_of_the_gate(rt: HostRuntime) {
     writes(&rt, &mut board, CRATE, 255);
     writes(&rt, &mut board, 0x108A, 7);
     writes(&rt, &mut board, MODE, LOW_THRESHOLD | OVER_RANGE);
-    gates(&rt, &mut board, 0, &[111, 0x1123], Ok((true, 2)));
+    gates(&rt, &mut board, 0, &[111, 0x1123], Ok(Some(2)));
     writes(&rt, &mut board, GEO, 31);
     writes(&rt, &mut board, CRATE, 1);
     writes(&rt, &mut board, 0x108A, KILL);
     writes(&rt, &mut board, 0x1092, 255);
     writes(&rt, &mut board, COUNTER_RESET, 0);
     writes(&rt, &mut board, MODE_CLEAR, LOW_THRESHOLD | OVER_RANGE);
-    gates(&rt, &mut board, 0, &[222, 4080], Ok((true, 1)));
+    gates(&rt, &mut board, 0, &[222, 4080], Ok(Some(1)));
     draws(
         &rt,
         &mut board,
@@ -91,7 +88,7 @@ fn the_order_of_a_time_board(rt: HostRuntime) -> Result<(), Fail> {
         words.push(datum(31, tag, 100 + u16::from(tag)))?;
     }
     words.push(end(31, 0))?;
-    gates(&rt, &mut board, 0, &slot_counts(), Ok((true, 32)));
+    gates(&rt, &mut board, 0, &slot_counts(), Ok(Some(32)));
     draws(&rt, &mut board, &words);
     Ok(())
 }
@@ -106,7 +103,7 @@ fn the_order_of_a_charge_board(rt: HostRuntime) -> Result<(), Fail> {
         words.push(datum(31, 16 + tag, 101 + 2 * u16::from(tag)))?;
     }
     words.push(end(31, 0))?;
-    gates(&rt, &mut board, 0, &slot_counts(), Ok((true, 32)));
+    gates(&rt, &mut board, 0, &slot_counts(), Ok(Some(32)));
     draws(&rt, &mut board, &words);
     Ok(())
 }
@@ -116,7 +113,7 @@ fn acts_on<B: Bank>(rt: &impl Abort, bank: &mut B, tag: u8, count: u16) {
     let offset = THRESHOLDS.wrapping_add(2 * u16::from(tag));
     writes(rt, bank, offset, 0);
     writes(rt, bank, COUNTER_RESET, 0);
-    gates(rt, bank, 0, &slot_counts(), Ok((true, 1)));
+    gates(rt, bank, 0, &slot_counts(), Ok(Some(1)));
     draws(
         rt,
         bank,
@@ -149,7 +146,7 @@ fn some_slots_of_a_charge_board(rt: HostRuntime) {
     for tag in [31, 16, 2, 17] {
         writes(&rt, &mut board, THRESHOLDS + 2 * tag, 0);
     }
-    gates(&rt, &mut board, 0, &slot_counts(), Ok((true, 4)));
+    gates(&rt, &mut board, 0, &slot_counts(), Ok(Some(4)));
     draws(
         &rt,
         &mut board,

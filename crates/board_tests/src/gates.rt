@@ -34,7 +34,7 @@ fn takes_32<B: Bank>(rt: &impl Abort, bank: &mut B) {
     turns_away(rt, bank, 0, &readings, 2, 0);
     turns_away(rt, bank, 0, &readings[0..2], 2, 0);
     turns_away(rt, bank, 0, &[], 2, 0);
-    gates(rt, bank, 0, &readings[0..32], Ok((true, 32)));
+    gates(rt, bank, 0, &readings[0..32], Ok(Some(32)));
     counts(rt, bank, 1);
     waits(rt, bank, 1);
 }
@@ -48,7 +48,7 @@ fn one_reading_for_each_slot(rt: HostRuntime) {
     turns_away(&rt, &mut board, 0, &[100], 2, 0);
     turns_away(&rt, &mut board, 0, &[100; 3], 2, 0);
     turns_away(&rt, &mut board, 0, &[100; 32], 2, 0);
-    gates(&rt, &mut board, 0, &[100; 2], Ok((true, 2)));
+    gates(&rt, &mut board, 0, &[100; 2], Ok(Some(2)));
 }
 
 /// Bits 15 to 13 are zero in every slot, also in one that is killed.
@@ -61,7 +61,7 @@ fn bits_that_must_be_0(rt: HostRuntime) {
         turns_away(&rt, &mut board, 0, &[reading, 0], 3, 0);
         turns_away(&rt, &mut board, 0, &[0, reading], 3, 0);
     }
-    gates(&rt, &mut board, 0, &[0x1FFF, 0x1FFF], Ok((true, 1)));
+    gates(&rt, &mut board, 0, &[0x1FFF, 0x1FFF], Ok(Some(1)));
     draws(
         &rt,
         &mut board,
@@ -77,7 +77,7 @@ fn bits_that_must_be_0_in_the_last_slot(rt: HostRuntime) {
     readings[31] = 0x2000;
     turns_away(&rt, &mut board, 0, &readings, 3, 0);
     readings[31] = 0x1FFF;
-    gates(&rt, &mut board, 0, &readings, Ok((true, 32)));
+    gates(&rt, &mut board, 0, &readings, Ok(Some(32)));
 }
 
 #[test]
@@ -89,7 +89,7 @@ fn signals(rt: HostRuntime) {
     turns_away(&rt, &mut board, 1, &[100; 2], 21, 1);
     turns_away(&rt, &mut board, 2, &[100; 2], 25, 2);
     waits(&rt, &board, 0);
-    gates(&rt, &mut board, 0, &[100; 2], Ok((true, 2)));
+    gates(&rt, &mut board, 0, &[100; 2], Ok(Some(2)));
     counts(&rt, &board, 3);
 }
 
@@ -120,10 +120,10 @@ fn counted<B: Bank>(rt: &impl Abort, bank: &mut B, counters: [u32; 7]) {
     is_unsound(rt, bank, counters[2]);
     turns_away(rt, bank, 0, &[100; 2], 22, counters[3]);
     writes(rt, bank, MODE_CLEAR, CLEAR_DATA);
-    gates(rt, bank, 0, &[0x1000; 2], Ok((false, 0)));
+    gates(rt, bank, 0, &[0x1000; 2], Ok(None));
     counts(rt, bank, counters[4]);
     for _ in 0..32 {
-        gates(rt, bank, 0, &[100; 2], Ok((true, 2)));
+        gates(rt, bank, 0, &[100; 2], Ok(Some(2)));
     }
     counts(rt, bank, counters[5]);
     is_unsound(rt, bank, counters[5]);
@@ -169,7 +169,7 @@ fn the_first_reason_tells(rt: HostRuntime) {
     first_reason(&rt, &mut board, 0, [21, 22, 22]);
     writes(&rt, &mut board, MODE_CLEAR, CLEAR_DATA);
     for _ in 0..32 {
-        gates(&rt, &mut board, 0, &[100; 2], Ok((true, 2)));
+        gates(&rt, &mut board, 0, &[100; 2], Ok(Some(2)));
     }
     first_reason(&rt, &mut board, 32, [21, 24, 24]);
     writes(&rt, &mut board, MODE, OFFLINE);
@@ -195,9 +195,9 @@ fn the_counter_goes_round(rt: HostRuntime) {
     veto(&rt, &mut board, 16_777_215 - 65536);
     reads(&rt, &board, COUNTER_LOW, Ok(0xFFFF));
     reads(&rt, &board, COUNTER_HIGH, Ok(0x00FF));
-    gates(&rt, &mut board, 0, &[1, 2], Ok((true, 2)));
+    gates(&rt, &mut board, 0, &[1, 2], Ok(Some(2)));
     counts(&rt, &board, 0);
-    gates(&rt, &mut board, 0, &[3, 4], Ok((true, 2)));
+    gates(&rt, &mut board, 0, &[3, 4], Ok(Some(2)));
     counts(&rt, &board, 1);
     draws(
         &rt,

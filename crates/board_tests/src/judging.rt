@@ -20,7 +20,7 @@ fn sets_threshold<B: Bank>(rt: &impl Abort, bank: &mut B, threshold: u16) {
 /// Of a gate with this reading in every slot, the reading of tag 5 is kept, as this datum.
 fn keeps<B: Bank>(rt: &impl Abort, bank: &mut B, reading: u16, count: u16, marks: u32) {
     writes(rt, bank, COUNTER_RESET, 0);
-    gates(rt, bank, 0, &[reading; 32], Ok((true, 1)));
+    gates(rt, bank, 0, &[reading; 32], Ok(Some(1)));
     draws(
         rt,
         bank,
@@ -31,7 +31,7 @@ fn keeps<B: Bank>(rt: &impl Abort, bank: &mut B, reading: u16, count: u16, marks
 /// Of such a gate nothing is kept: it stores nothing, and is counted.
 fn drops<B: Bank>(rt: &impl Abort, bank: &mut B, reading: u16) {
     writes(rt, bank, COUNTER_RESET, 0);
-    gates(rt, bank, 0, &[reading; 32], Ok((false, 0)));
+    gates(rt, bank, 0, &[reading; 32], Ok(None));
     waits(rt, bank, 0);
     counts(rt, bank, 1);
 }
@@ -148,15 +148,15 @@ fn overflows_under_threshold(rt: HostRuntime) {
 #[test]
 fn nothing_kept(rt: HostRuntime) {
     let mut board = Board::new(Pair);
-    gates(&rt, &mut board, 0, &[0x1001, 0x1FFF], Ok((false, 0)));
+    gates(&rt, &mut board, 0, &[0x1001, 0x1FFF], Ok(None));
     draws_nothing(&rt, &mut board);
     counts(&rt, &board, 1);
     writes(&rt, &mut board, MODE, EMPTY);
-    gates(&rt, &mut board, 0, &[0x1001, 0x1FFF], Ok((true, 0)));
-    gates(&rt, &mut board, 0, &[0x1001, 4], Ok((true, 1)));
-    gates(&rt, &mut board, 0, &[3, 4], Ok((true, 2)));
+    gates(&rt, &mut board, 0, &[0x1001, 0x1FFF], Ok(Some(0)));
+    gates(&rt, &mut board, 0, &[0x1001, 4], Ok(Some(1)));
+    gates(&rt, &mut board, 0, &[3, 4], Ok(Some(2)));
     writes(&rt, &mut board, MODE_CLEAR, EMPTY);
-    gates(&rt, &mut board, 0, &[0x1001, 0x1FFF], Ok((false, 0)));
+    gates(&rt, &mut board, 0, &[0x1001, 0x1FFF], Ok(None));
     waits(&rt, &board, 3);
     counts(&rt, &board, 5);
     draws(&rt, &mut board, &[0xFA00_0000, 0xFC00_0001]);

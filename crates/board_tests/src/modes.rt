@@ -87,13 +87,10 @@ fn all_bits_at_once(rt: HostRuntime) {
 }
 
 /// Of all values so many are accepted at the offset, the others refused by number 6.
-fn accepts<B: Bank>(rt: &impl Abort, bank: &mut B, offset: u16, expected: u32) {
-    let mut refused = 0u32;
-    for value in 0..=0xFFFF {
-        if write_at(bank, 0, offset, value) == Err(6) {
-            refused = refused.wrapping_add(1);
-        }
-    }
+fn accepts<B: Bank>(rt: &impl Abort, bank: &mut B, offset: u16, expected: usize) {
+    let refused = (0..=0xFFFF)
+        .filter(|value| write_at(bank, 0, offset, *value) == Err(6))
+        .count();
     assert_eq!(rt; refused.wrapping_add(expected), 65536);
 }
 

@@ -18,7 +18,7 @@ fn prepares<B: Bank>(rt: &impl Abort, bank: &mut B) {
         gates(rt, bank, 1, &[200, 300], Err(21));
     }
     for _ in 0..3 {
-        gates(rt, bank, 0, &[200, 300], Ok((true, 2)));
+        gates(rt, bank, 0, &[200, 300], Ok(Some(2)));
     }
     waits(rt, bank, 3);
     counts(rt, bank, 5);
@@ -68,7 +68,7 @@ fn data_reset_under_all_trg(rt: HostRuntime) {
     writes(&rt, &mut board, MODE_CLEAR, CLEAR_DATA);
     reads(&rt, &board, STATUS, Ok(0));
     counts(&rt, &board, 6);
-    gates(&rt, &mut board, 0, &[200, 300], Ok((true, 2)));
+    gates(&rt, &mut board, 0, &[200, 300], Ok(Some(2)));
     draws_event(&rt, &mut board, 5, 6);
     draws_nothing(&rt, &mut board);
 }
@@ -86,7 +86,7 @@ fn data_reset_without_all_trg(rt: HostRuntime) {
     gates(&rt, &mut board, 0, &[200, 300], Err(22));
     is_reset(&rt, &mut board, 0x0884, 0);
     writes(&rt, &mut board, MODE_CLEAR, CLEAR_DATA);
-    gates(&rt, &mut board, 0, &[200, 300], Ok((true, 2)));
+    gates(&rt, &mut board, 0, &[200, 300], Ok(Some(2)));
     draws_event(&rt, &mut board, 5, 0);
     counts(&rt, &board, 1);
 }
@@ -155,7 +155,7 @@ fn resets_all<B: Bank>(rt: &impl Abort, bank: &mut B, mode: u16, value: u16) {
     reads(rt, bank, STATUS, Ok(0));
     counts(rt, bank, 0);
     draws_nothing(rt, bank);
-    gates(rt, bank, 0, &[200, 300], Ok((true, 2)));
+    gates(rt, bank, 0, &[200, 300], Ok(Some(2)));
     draws_event(rt, bank, 0, 0);
 }
 
@@ -175,14 +175,14 @@ fn resets_of_a_full_buffer(rt: HostRuntime) {
     let mut board = Board::new(Pair);
     for (offset, value) in [(MODE, CLEAR_DATA), (SOFTWARE_RESET, 0)] {
         for _ in 0..32 {
-            gates(&rt, &mut board, 0, &[200, 300], Ok((true, 2)));
+            gates(&rt, &mut board, 0, &[200, 300], Ok(Some(2)));
         }
         reads(&rt, &board, STATUS, Ok(5));
         writes(&rt, &mut board, offset, value);
         draws_nothing(&rt, &mut board);
         writes(&rt, &mut board, MODE_CLEAR, CLEAR_DATA);
     }
-    gates(&rt, &mut board, 0, &[200, 300], Ok((true, 2)));
+    gates(&rt, &mut board, 0, &[200, 300], Ok(Some(2)));
     waits(&rt, &board, 1);
 }
 
@@ -200,7 +200,7 @@ fn counter_reset(rt: HostRuntime) {
         reads(&rt, &board, STATUS, Ok(1));
         counts(&rt, &board, 0);
         waits(&rt, &board, 3);
-        gates(&rt, &mut board, 0, &[200, 300], Ok((true, 2)));
+        gates(&rt, &mut board, 0, &[200, 300], Ok(Some(2)));
         for number in [2, 3, 4, 0] {
             draws_event(&rt, &mut board, 5, number);
         }

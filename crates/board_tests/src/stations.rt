@@ -113,7 +113,7 @@ fn boards_have_one_station(rt: HostRuntime) {
 fn events_wait_at_one_station(rt: HostRuntime) {
     let mut board = Board::new(Pair);
     for _ in 0..2 {
-        gates(&rt, &mut board, 0, &[200, 300], Ok((true, 2)));
+        gates(&rt, &mut board, 0, &[200, 300], Ok(Some(2)));
     }
     has_one_station(&rt, &mut board);
     for number in [0, 1] {

@@ -2,4 +2,3 @@ pub mod Filling
 pub mod Lawfulness
 pub mod Rounds
 pub mod Spelling
-pub mod Storing

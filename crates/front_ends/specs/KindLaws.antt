@@ -2,7 +2,7 @@
 use Rattle.std.specs.Prelude.{◌≡◌, ℕ, ◌<◌, ◌≤◌, nat_eq, nat_lt, slice_index, refl}
 use Rattle.std.proofs.Common.{⊎_elim, arith}
 use Rattle.std.specs.List.{AllByRecursion}
-use Rattle.std.proofs.ByRecursion.{All-from_get_or}
+use Rattle.std.proofs.lemmas.List.Elements.{recursion_from_All, All-from_get_or}
 use Rattle.std.proofs.lemmas.Bool.{cases_lt, eqb-true, lt-ltb, le-ltb, ltb-true}
 use Rattle.front_ends.specs.declared.step.Step.{Step}
 use Rattle.front_ends.specs.declared.step.Step.TheVariants.{Coarse, Fine}
@@ -18,10 +18,14 @@ pub charge_found : FoundEach charge_tags
 charge_found = refl
 
 pub time_fit : AllByRecursion (λ t. t < 32) time_tags
-time_fit = All-from_get_or (λ t. t < 32) time_tags 0 (λ s l. ltb-true (slice_index time_tags s) 32 (at_each (λ _ t. nat_lt t 32) time_tags refl s l))
+time_fit =
+    recursion_from_All (λ t. t < 32) time_tags
+    (All-from_get_or (λ t. t < 32) time_tags 0 (λ s l. ltb-true (slice_index time_tags s) 32 (at_each (λ _ t. nat_lt t 32) time_tags refl s l)))
 
 pub charge_fit : AllByRecursion (λ t. t < 32) charge_tags
-charge_fit = All-from_get_or (λ t. t < 32) charge_tags 0 (λ s l. ltb-true (slice_index charge_tags s) 32 (at_each (λ _ t. nat_lt t 32) charge_tags refl s l))
+charge_fit =
+    recursion_from_All (λ t. t < 32) charge_tags
+    (All-from_get_or (λ t. t < 32) charge_tags 0 (λ s l. ltb-true (slice_index charge_tags s) 32 (at_each (λ _ t. nat_lt t 32) charge_tags refl s l)))
 
 -- the time board's tag of a slot is the slot
 pub time_same : (s : ℕ) → s < 32 → slice_index time_tags s ≡ s

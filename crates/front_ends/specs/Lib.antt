@@ -1,3 +1,4 @@
+pub mod Chosen
 pub mod Fronts
 pub mod Kinds
 pub mod KindLaws

@@ -3,5 +3,6 @@
 
 pub mod charge;
 pub mod front_end;
+pub mod kind;
 pub mod step;
 pub mod time;

@@ -1,6 +1,7 @@
 //! `pace COUNT [draw]`: so many gates put to a charge board, each event skipped or drawn, for a count of instructions.
 #![tactic(auto)]
 
+use answers::refusal::Refusal;
 use anyhow::anyhow;
 use bank::Bank;
 use board::board::Board;
@@ -19,31 +20,25 @@ const READINGS: [u16; 32] = [
     300, 400, 500, 600, 700, 0x1FFF, 100, 200, 300, 400, 500, 600, 700, 0x1FFF,
 ];
 
-/// Takes the event of the last gate, and answers the sum of its words, so that each of them has to be made.
-fn draw<B: Bank>(bank: &mut B) -> u64 {
+/// Draws the event of the last gate, and answers the sum of its words, so that each of them has to be made.
+fn draw<B: Bank>(bank: &mut B) -> Result<u64, Refusal> {
     let mut block = [0; BLOCK];
-    let mut sum = 0u64;
-    if let Ok(_) = bank.draw(0, &mut block) {
-        for word in &block {
-            sum = sum.wrapping_add(u64::from(*word));
-        }
-    }
-    sum
+    bank.draw(0, &mut block)?;
+    Ok(
+        block
+            .iter()
+            .fold(0u64, |sum, word| sum.wrapping_add(u64::from(*word))),
+    )
 }
 
 /// Puts a gate and takes its event, drawn or skipped; answers what was kept and drawn.
-fn pair<B: Bank>(bank: &mut B, drawn: bool) -> u64 {
-    let kept = match bank.gate(0, 0, &READINGS) {
-        Ok(gated) => u64::from(gated.kept),
-        Err(_) => 0,
-    };
+fn pair<B: Bank>(bank: &mut B, drawn: bool) -> Result<u64, Refusal> {
+    let kept = bank.gate(0, 0, &READINGS)?.map_or(0, u64::from);
     if drawn {
-        return draw(bank).wrapping_add(kept);
+        return Ok(draw(bank)?.wrapping_add(kept));
     }
-    match bank.write(0, SKIP, 0) {
-        Ok(()) => kept,
-        Err(_) => 0,
-    }
+    bank.write(0, SKIP, 0)?;
+    Ok(kept)
 }
 
 fn run(rt: &HostRuntime) -> anyhow::Result<()> {
@@ -56,7 +51,7 @@ fn run(rt: &HostRuntime) -> anyhow::Result<()> {
     let mut board = Board::new(Charge);
     let mut sum = 0u64;
     for _ in 0..count {
-        sum = sum.wrapping_add(pair(&mut board, drawn));
+        sum = sum.wrapping_add(pair(&mut board, drawn)?);
     }
     println!(rt; "{sum}")?;
     Ok(())

@@ -5,10 +5,8 @@
 use anyhow::anyhow;
 use bank::Bank;
 use board::board::Board;
-use front_ends::charge::Charge;
-use front_ends::time::Time;
+use front_ends::kind::Kind;
 use player::{open, take};
-use script::call::Kind;
 use script::mistake::Mistake;
 use script_text::reply::{Answer, Drawn, Reply};
 use std::io::{BufRead, BufReader, BufWriter, Stdin, Stdout, Write};
@@ -34,8 +32,8 @@ fn without_end(line: &[u8]) -> &[u8] {
 }
 
 impl<W: Write + Drop> Desk<W> {
-    /// Reads the next line, unless the script has ended.
-    fn next(&mut self) -> io::Result<bool> {
+    /// The next line, none if the script has ended.
+    fn next(&mut self) -> io::Result<Option<&[u8]>> {
         if !self.script.buffer().contains(&b'\n') {
             // Somebody may wait for the answers before giving the rest of the next line.
             self.answers.flush()?;
@@ -43,15 +41,18 @@ impl<W: Write + Drop> Desk<W> {
         self.line.clear();
         self.number = self.number.saturating_add(1);
         let length = self.script.read_until(b'\n', &mut self.line)?;
-        Ok(length > 0)
+        if length == 0 {
+            return Ok(None);
+        }
+        Ok(Some(without_end(&self.line)))
     }
 
     fn tell(&mut self, told: Result<Answer, Mistake>) -> io::Result<()> {
         let line = self.number;
         let reply = Reply { line, told };
         writeln!(self.answers, "{reply}")?;
-        match told {
-            Ok(Answer::Draw(Ok(drawn))) => self.keep(&drawn),
+        match &reply.told {
+            Ok(Answer::Draw(Ok(drawn))) => self.keep(drawn),
             _ => Ok(()),
         }
     }
@@ -67,10 +68,10 @@ impl<W: Write + Drop> Desk<W> {
     /// The kind of board that the script names, none if it ends before.
     fn open(&mut self) -> io::Result<Option<Kind>> {
         for _ in 0..u64::MAX {
-            if !self.next()? {
+            let Some(line) = self.next()? else {
                 break;
-            }
-            match open(without_end(&self.line)) {
+            };
+            match open(line) {
                 Ok(None) => {}
                 Ok(Some(kind)) => return Ok(Some(kind)),
                 Err(mistake) => self.tell(Err(mistake))?,
@@ -82,10 +83,10 @@ impl<W: Write + Drop> Desk<W> {
     /// Puts the rest of the script to the bank.
     fn play<B: Bank + Drop>(&mut self, mut bank: B) -> io::Result<()> {
         for _ in 0..u64::MAX {
-            if !self.next()? {
+            let Some(line) = self.next()? else {
                 break;
-            }
-            if let Some(told) = take(&mut bank, without_end(&self.line)) {
+            };
+            if let Some(told) = take(&mut bank, line) {
                 self.tell(told)?;
             }
         }
@@ -109,10 +110,8 @@ fn play<W: Write + Drop>(rt: &HostRuntime, words: W) -> anyhow::Result<()> {
         answers: BufWriter::new(heap, rt.stdout())?,
         words: BufWriter::new(heap, words)?,
     };
-    match desk.open()? {
-        Some(Kind::Time) => desk.play(Board::new(Time))?,
-        Some(Kind::Charge) => desk.play(Board::new(Charge))?,
-        None => {}
+    if let Some(kind) = desk.open()? {
+        desk.play(Board::new(kind))?;
     }
     desk.close()?;
     Ok(())

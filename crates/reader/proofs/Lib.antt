@@ -5,4 +5,3 @@ pub mod Inverting
 pub mod Packs
 pub mod SeenLaws
 pub mod Steps
-pub mod TagBits

@@ -1,10 +1,10 @@
 -- Small steps along a run and through a `?`.
-use Rattle.std.proofs.Common.{◌≡◌, ℕ, ◌+◌, ◌-◌, ◌<◌, Bool, true, false, cond, List, ◌∷◌, length, get_or, drop, Ok, Err, Result, sym, refl, ap, ◌∙◌, arith}
+use Rattle.std.proofs.Common.{◌≡◌, ℕ, ◌+◌, ◌-◌, ◌<◌, Bool, true, false, cond, List, ◌∷◌, length, get_or, drop, Ok, Err, Result, sym, refl, ap, ◌∙◌, arith, rules}
 use Rattle.std.proofs.lemmas.List.{length-drop, get_or-drop, drop-drop}
 use Rattle.reader.specs.Then.{then_by}
 
 pub err_ok : {A E : Type 0} {e : E} {a : A} → Err e ≡ Ok a → ⊥
-err_ok h = let z : ◌≡◌ {A = ℕ} 0 1 = cc in omega arith
+err_ok h = search rules
 
 pub ok_same : {A E : Type 0} {a b : A} → ◌≡◌ {A = Result A E} (Ok a) (Ok b) → a ≡ b
 ok_same h = cc

@@ -1,19 +1,15 @@
--- What each fault and each refusal tells.
-use Rattle.std.specs.Prelude.{ℕ}
-use Rattle.words.specs.declared.fault.Layer.{Layer}
+-- What each fault and each refusal tells, and in words.
+use Rattle.std.specs.Prelude.{ℕ, List, codes}
+use Rattle.words.specs.declared.fault.Due.TheVariants as due
 use Rattle.words.specs.declared.fault.Layer.TheVariants as layer
 use Rattle.words.specs.declared.fault.Report.{Report}
-use Rattle.words.specs.declared.fault.Spot.{Spot}
-use Rattle.words.specs.Faults.{word_report}
+use Rattle.words.specs.Faults.{report_at, word_report, fault_text}
 use Rattle.reader.specs.declared.fault.EventFault.{EventFault}
 use Rattle.reader.specs.declared.fault.EventFault.TheVariants.{Word, Geo, TooMany, Twice, CutShort}
 use Rattle.reader.specs.declared.fault.RunFault.{RunFault}
 use Rattle.reader.specs.declared.fault.RunFault.TheVariants.{Event, NoSuchTag}
 use Rattle.reader.specs.declared.fault.Refusal.{Refusal}
 use Rattle.reader.specs.declared.fault.Refusal.TheVariants.{SpaceShort, TooLong, PastEnd, Fault}
-
-abbrev pub report_at : ℕ → Layer → Spot → Report
-report_at n l s = record { number = n; layer = l; began = s.began; place = s.place }
 
 -- 13: GEO differs from the header's; 14: more than 32 readings; 15: a tag twice; 16: the run ends inside the event
 abbrev pub event_report : EventFault → Report
@@ -41,3 +37,23 @@ refusal_place SpaceShort = 0
 refusal_place TooLong = 0
 refusal_place PastEnd = 0
 refusal_place (Fault f) = (run_report f).place
+
+-- what is wrong, and what was expected in its place
+abbrev pub event_text : EventFault → List ℕ
+event_text (Word f) = fault_text f.cause f.due
+event_text (Geo s) = codes "GEO differs; expected that of the event's header"
+event_text (TooMany s) = codes "the header tells of too many readings; expected 32 or fewer"
+event_text (Twice s) = codes "the tag was used in this event; expected one that was not"
+event_text (CutShort due.Datum s) = codes "the run ends inside the event; expected a datum"
+event_text (CutShort due.First s) = codes "the run ends inside the event; expected its end"
+event_text (CutShort due.End s) = codes "the run ends inside the event; expected its end"
+
+abbrev pub run_text : RunFault → List ℕ
+run_text (Event f) = event_text f
+run_text (NoSuchTag s) = codes "the board has no such tag; expected one of its own"
+
+abbrev pub refusal_text : Refusal → List ℕ
+refusal_text SpaceShort = codes "the record space is under 256 bytes"
+refusal_text TooLong = codes "the run exceeds 16384 words"
+refusal_text PastEnd = codes "the place is past the run's end"
+refusal_text (Fault f) = run_text f

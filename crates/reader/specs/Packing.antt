@@ -1,5 +1,5 @@
 -- Bytes as words, high byte first.
-use Rattle.std.specs.Prelude.{ℕ, zero, suc, ◌+◌, ◌*◌, ◌/◌, ◌%◌, ◌^◌, cond, List, [], ◌∷◌, ◌++◌, length, Ok, Err, Result, ◌==◌, nat_lt, slice_index}
+use Rattle.std.specs.Prelude.{ℕ, zero, suc, ◌+◌, ◌*◌, ◌/◌, ◌%◌, ◌^◌, cond, List, [], ◌∷◌, ◌++◌, length, Ok, Err, Result, ◌==◌, nat_lt, slice_index, codes}
 use Rattle.words.specs.Spaces.{onto}
 use Rattle.reader.specs.declared.pack.PackRefusal.{PackRefusal}
 use Rattle.reader.specs.declared.pack.PackRefusal.TheVariants.{TooLong, CutWord, SpaceShort}
@@ -17,6 +17,11 @@ abbrev pub pack_number : PackRefusal → ℕ
 pack_number TooLong = 9
 pack_number CutWord = 9
 pack_number SpaceShort = 9
+
+abbrev pub pack_text : PackRefusal → List ℕ
+pack_text TooLong = codes "the input is too long; expected 65536 bytes or fewer"
+pack_text CutWord = codes "the input ends inside a word; expected a multiple of 4 bytes"
+pack_text SpaceShort = codes "the words do not fit; expected a space as long as they are"
 
 abbrev pub pack_answer : List ℕ → List ℕ → Result ℕ PackRefusal
 pack_answer bytes space =

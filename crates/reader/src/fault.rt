@@ -1,15 +1,17 @@
 //! What can be wrong with a run, layer upon layer, and what a reader refuses.
 
-ghost use Rattle.std.specs.Prelude.{◌≡◌};
+ghost use Rattle.std.specs.Prelude.{◌≡◌, Some};
 ghost use Rattle.reader.specs.declared.fault.EventFault.TheVariants.{Word};
 ghost use Rattle.reader.specs.declared.fault.RunFault.TheVariants.{Event};
 ghost use Rattle.reader.specs.declared.fault.Refusal.TheVariants.{Fault};
-ghost use Rattle.reader.specs.Faults.{event_report, run_report, refusal_number, refusal_place};
+ghost use Rattle.reader.specs.Faults.{event_report, run_report, refusal_number, refusal_place, event_text, run_text, refusal_text};
 
+use std::error::Error;
+use std::fmt;
 use words::fault::{Due, Layer, Report, Spot, WordFault};
 
 /// A fault of the event layer.
-#[derive(Clone, Copy)]
+#[derive(Clone, Copy, PartialEq, Eq, Debug)]
 pub enum EventFault {
     Word(WordFault),
     /// The GEO is not the header's.
@@ -23,7 +25,7 @@ pub enum EventFault {
 }
 
 /// A fault of the run layer.
-#[derive(Clone, Copy)]
+#[derive(Clone, Copy, PartialEq, Eq, Debug)]
 pub enum RunFault {
     Event(EventFault),
     /// The front end has no such tag.
@@ -31,7 +33,7 @@ pub enum RunFault {
 }
 
 /// Why a reader turned a call away.
-#[derive(Clone, Copy)]
+#[derive(Clone, Copy, PartialEq, Eq, Debug)]
 pub enum Refusal {
     /// The record space is under 256 bytes.
     SpaceShort,
@@ -71,18 +73,12 @@ impl EventFault {
     pub fn report(&self) -> Report
         ensures { result ≡ event_report self.now }
     {
-        let (number, spot) = match self {
-            EventFault::Word(fault) => return fault.report(),
-            EventFault::Geo(spot) => (13, *spot),
-            EventFault::TooMany(spot) => (14, *spot),
-            EventFault::Twice(spot) => (15, *spot),
-            EventFault::CutShort(_, spot) => (16, *spot),
-        };
-        Report {
-            number,
-            layer: Layer::Event,
-            began: spot.began,
-            place: spot.place,
+        match self {
+            EventFault::Word(fault) => fault.report(),
+            EventFault::Geo(spot) => spot.report(13, Layer::Event),
+            EventFault::TooMany(spot) => spot.report(14, Layer::Event),
+            EventFault::Twice(spot) => spot.report(15, Layer::Event),
+            EventFault::CutShort(_, spot) => spot.report(16, Layer::Event),
         }
     }
 }
@@ -94,12 +90,7 @@ impl RunFault {
     {
         match self {
             RunFault::Event(fault) => fault.report(),
-            RunFault::NoSuchTag(spot) => Report {
-                number: 17,
-                layer: Layer::Run,
-                began: spot.began,
-                place: spot.place,
-            },
+            RunFault::NoSuchTag(spot) => spot.report(17, Layer::Run),
         }
     }
 }
@@ -127,3 +118,51 @@ impl Refusal {
         }
     }
 }
+
+impl fmt::Display for EventFault {
+    ghost output = { λ x. Some (event_text x) };
+
+    fn fmt<W: fmt::Write>(&self, f: &mut fmt::Formatter<W>) -> fmt::Result {
+        f.write_str(match self {
+            EventFault::Word(fault) => return write!(f, "{fault}"),
+            EventFault::Geo(_) => "GEO differs; expected that of the event's header",
+            EventFault::TooMany(_) => "the header tells of too many readings; expected 32 or fewer",
+            EventFault::Twice(_) => "the tag was used in this event; expected one that was not",
+            EventFault::CutShort(Due::Datum, _) =>
+                "the run ends inside the event; expected a datum",
+            EventFault::CutShort(_, _) => "the run ends inside the event; expected its end",
+        })
+    }
+}
+
+impl fmt::Display for RunFault {
+    ghost output = { λ x. Some (run_text x) };
+
+    fn fmt<W: fmt::Write>(&self, f: &mut fmt::Formatter<W>) -> fmt::Result {
+        match self {
+            RunFault::Event(fault) => write!(f, "{fault}"),
+            RunFault::NoSuchTag(_) => {
+                f.write_str("the board has no such tag; expected one of its own")
+            }
+        }
+    }
+}
+
+impl fmt::Display for Refusal {
+    ghost output = { λ x. Some (refusal_text x) };
+
+    fn fmt<W: fmt::Write>(&self, f: &mut fmt::Formatter<W>) -> fmt::Result {
+        f.write_str(match self {
+            Refusal::SpaceShort => "the record space is under 256 bytes",
+            Refusal::TooLong => "the run exceeds 16384 words",
+            Refusal::PastEnd => "the place is past the run's end",
+            Refusal::Fault(fault) => return write!(f, "{fault}"),
+        })
+    }
+}
+
+impl Error for EventFault {}
+
+impl Error for RunFault {}
+
+impl Error for Refusal {}

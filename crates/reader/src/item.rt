@@ -1,7 +1,7 @@
 //! What a reader finds in a run.
 
 /// An item of a run.
-#[derive(Clone, Copy)]
+#[derive(Clone, Copy, PartialEq, Eq, Debug)]
 pub enum Item<'a> {
     /// An event, with its data words as a part of the run.
     Event {
@@ -15,7 +15,7 @@ pub enum Item<'a> {
 }
 
 /// An item, and the place after it.
-#[derive(Clone, Copy)]
+#[derive(Clone, Copy, PartialEq, Eq, Debug)]
 pub struct Found<'a> {
     pub item: Item<'a>,
     pub next: usize,

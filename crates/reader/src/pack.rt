@@ -1,13 +1,14 @@
 //! Bytes as words, high byte first.
 
-ghost use Rattle.std.specs.Prelude.{◌≡◌, ◌*◌, ◌≤◌, length};
-ghost use Rattle.words.specs.Spaces.{onto};
-ghost use Rattle.reader.specs.Packing.{packed, pack_answer, pack_after, pack_number};
+ghost use Rattle.std.specs.Prelude.{◌≡◌, Some};
+ghost use Rattle.reader.specs.Packing.{pack_answer, pack_after, pack_number, pack_text};
 
 use crate::run::MOST_WORDS;
+use std::error::Error;
+use std::fmt;
 
 /// Why bytes are not packed. Each has number 9.
-#[derive(Clone, Copy)]
+#[derive(Clone, Copy, PartialEq, Eq, Debug)]
 pub enum PackRefusal {
     /// More than 16,384 words.
     TooLong,
@@ -28,20 +29,19 @@ impl PackRefusal {
     }
 }
 
-fn put_words(bytes: &[u8], count: usize, space: &mut [u32])
-    requires bytes_there { 4 * count ≤ length bytes.now }
-    requires room { count ≤ length space.old }
-    ensures { space.new ≡ onto (packed bytes.now count) space.old }
-{
-    for i in 0..count {
-        space[i] = u32::from_be_bytes([
-            bytes[4 * i],
-            bytes[4 * i + 1],
-            bytes[4 * i + 2],
-            bytes[4 * i + 3],
-        ]);
+impl fmt::Display for PackRefusal {
+    ghost output = { λ x. Some (pack_text x) };
+
+    fn fmt<W: fmt::Write>(&self, f: &mut fmt::Formatter<W>) -> fmt::Result {
+        f.write_str(match self {
+            PackRefusal::TooLong => "the input is too long; expected 65536 bytes or fewer",
+            PackRefusal::CutWord => "the input ends inside a word; expected a multiple of 4 bytes",
+            PackRefusal::SpaceShort => "the words do not fit; expected a space as long as they are",
+        })
     }
 }
+
+impl Error for PackRefusal {}
 
 /// Writes the words of the bytes to the front of the space, and answers how many they are.
 pub fn pack(bytes: &[u8], space: &mut [u32]) -> Result<usize, PackRefusal>
@@ -51,13 +51,16 @@ pub fn pack(bytes: &[u8], space: &mut [u32]) -> Result<usize, PackRefusal>
     if bytes.len() > 4 * MOST_WORDS {
         return Err(PackRefusal::TooLong);
     }
-    if bytes.len() % 4 != 0 {
+    let (words, cut) = bytes.as_chunks::<4>();
+    if !cut.is_empty() {
         return Err(PackRefusal::CutWord);
     }
-    let count = bytes.len() / 4;
-    if count > space.len() {
+    if words.len() > space.len() {
         return Err(PackRefusal::SpaceShort);
     }
-    put_words(bytes, count, space);
-    Ok(count)
+    // By index: of a space that was written through a `zip` of its `iter_mut` a proof knows nothing afterwards.
+    for (i, word) in words.iter().enumerate() {
+        space[i] = u32::from_be_bytes(*word);
+    }
+    Ok(words.len())
 }

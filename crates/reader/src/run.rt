@@ -1,27 +1,47 @@
 //! The run layer: what stands at a place of a run.
 
 ghost use Rattle.std.specs.Prelude.{◌≡◌, ◌≤◌, length};
-ghost use Rattle.reader.specs.Items.{means_run, means};
+ghost use Rattle.reader.specs.Events.{spot_at};
+ghost use Rattle.reader.specs.Items.{means};
 ghost use Rattle.reader.specs.Runs.{run_at, read_at};
 ghost use Rattle.reader.specs.Laws.{Exact};
 
 use crate::event::read_item;
 use crate::fault::{Refusal, RunFault};
 use crate::item::Found;
+use words::fault::Spot;
 
 /// The most words that a run has.
 pub const MOST_WORDS: usize = 16384;
 
-fn read_run<'a>(run: &'a [u32], place: usize) -> Result<Option<Found<'a>>, RunFault>
-    requires run_len_bound { length run.now ≤ 16384 }
-    requires place_in_bounds { place ≤ length run.now }
-    ensures { means_run result ≡ run_at run.now place }
-{
-    if place == run.len() {
-        return Ok(None);
+/// A run that is not too long, so that its places fit a spot.
+#[derive(Clone, Copy)]
+pub(crate) struct Run<'a> {
+    pub(crate) words: &'a [u32],
+    ghost not_too_long: { length words.now ≤ 16384 },
+}
+
+impl<'a> Run<'a> {
+    pub(crate) fn spot(&self, began: usize, place: usize) -> Spot
+        requires began_bound { began ≤ length self.now.words.now }
+        requires place_bound { place ≤ length self.now.words.now }
+        ensures { result ≡ spot_at began place }
+    {
+        Spot {
+            began: began as u16,
+            place: place as u16,
+        }
     }
-    let found = read_item(run, place)?;
-    Ok(Some(found))
+
+    fn read(&self, place: usize) -> Result<Option<Found<'a>>, RunFault>
+        requires { place ≤ length self.now.words.now }
+        ensures { means result ≡ run_at self.now.words.now place }
+    {
+        if place == self.words.len() {
+            return Ok(None);
+        }
+        Ok(Some(read_item(self, place)?))
+    }
 }
 
 /// The item at a place of the run with the place after it, or none at the run's end.
@@ -35,6 +55,5 @@ pub fn read<'a>(run: &'a [u32], place: usize) -> Result<Option<Found<'a>>, Refus
     if place > run.len() {
         return Err(Refusal::PastEnd);
     }
-    let found = read_run(run, place)?;
-    Ok(found)
+    Ok(Run { words: run }.read(place)?)
 }

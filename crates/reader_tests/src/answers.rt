@@ -35,7 +35,30 @@ impl Answer {
         }
     }
 
-    pub(crate) fn of_found(found: Option<Found>) -> Answer {
+    pub(crate) fn of_read(run: &[u32], place: usize) -> Answer {
+        match read(run, place) {
+            Ok(found) => Answer::from(found),
+            Err(refusal) => Answer::from(refusal),
+        }
+    }
+
+    /// What `lift` answered, and how many records it wrote.
+    pub(crate) fn of_lift<F: FrontEnd>(
+        front: &F,
+        run: &[u32],
+        place: usize,
+        space: &mut [u8],
+    ) -> (Answer, usize) {
+        match lift(front, run, place, space) {
+            Ok(Some(lifted)) => (Answer::from(Some(lifted.found)), lifted.records),
+            Ok(None) => (Answer::End, 0),
+            Err(refusal) => (Answer::from(refusal), 0),
+        }
+    }
+}
+
+impl<'a> From<Option<Found<'a>>> for Answer {
+    fn from(found: Option<Found<'a>>) -> Answer {
         let Some(Found { item, next }) = found else {
             return Answer::End;
         };
@@ -55,31 +78,13 @@ impl Answer {
             },
         }
     }
+}
 
-    pub(crate) fn of_refusal(refusal: Refusal) -> Answer {
+impl From<Refusal> for Answer {
+    fn from(refusal: Refusal) -> Answer {
         match refusal {
             Refusal::Fault(fault) => Answer::Fault(fault.report()),
             _ => Answer::Refused(refusal.number()),
-        }
-    }
-
-    pub(crate) fn of_read(run: &[u32], place: usize) -> Answer {
-        match read(run, place) {
-            Ok(found) => Answer::of_found(found),
-            Err(refusal) => Answer::of_refusal(refusal),
-        }
-    }
-
-    /// What `lift` answered, and how many records it wrote.
-    pub(crate) fn of_lift<F: FrontEnd>(
-        front: &F,
-        run: &[u32],
-        place: usize,
-        space: &mut [u8],
-    ) -> (Answer, usize) {
-        match lift(front, run, place, space) {
-            Ok(lifted) => (Answer::of_found(lifted.found), lifted.records),
-            Err(refusal) => (Answer::of_refusal(refusal), 0),
         }
     }
 }

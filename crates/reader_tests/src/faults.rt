@@ -142,11 +142,9 @@ fn the_first_word_tells(rt: HostRuntime) {
 
 #[test]
 fn a_refusal_tells_number_and_place(rt: HostRuntime) -> Result<(), Fail> {
-    match read(&[0x1A05_0200, 0x1804_0064, 0x1804_0064], 0) {
-        Ok(_) => Err(Fail::new("nothing is wrong")),
-        Err(refusal) => {
-            assert_eq!(rt; (refusal.number(), refusal.place()), (15, 2));
-            Ok(())
-        },
-    }
+    let Err(refusal) = read(&[0x1A05_0200, 0x1804_0064, 0x1804_0064], 0) else {
+        return Err(Fail::new("nothing is wrong"));
+    };
+    assert_eq!(rt; (refusal.number(), refusal.place()), (15, 2));
+    Ok(())
 }

@@ -21,14 +21,13 @@ fn ends_at_32<F: FrontEnd>(rt: &impl Abort, front: &F) {
 
 /// The floors of the thresholds 0, 7 and 255.
 fn floors<F: FrontEnd>(rt: &impl Abort, front: &F, step: Step, expected: [u16; 3]) {
-    assert_eq!(rt;
-        [
-            front.floor(step, 0),
-            front.floor(step, 7),
-            front.floor(step, 255),
-        ],
-        expected
-    );
+    for (threshold, floor) in [0, 7, 255].into_iter().zip(expected) {
+        assert_eq!(rt;
+            front.floor(step, threshold),
+            floor,
+            "threshold {threshold}"
+        );
+    }
 }
 
 #[test]

@@ -50,16 +50,18 @@ fn ends_fit(rt: HostRuntime) {
 
 #[test]
 fn readings_are_taken_apart(rt: HostRuntime) {
-    for (word, parts) in [
-        (0xF81F_3FFF, (31, true, true, 4095)),
-        (0x1805_2320, (5, true, false, 800)),
-        (0x1804_1064, (4, false, true, 100)),
-        (0xFFE0_C000, (0, false, false, 0)),
+    for (word, tag, under, over, count) in [
+        (0xF81F_3FFF, 31, true, true, 4095),
+        (0x1805_2320, 5, true, false, 800),
+        (0x1804_1064, 4, false, true, 100),
+        (0xFFE0_C000, 0, false, false, 0),
     ] {
-        let reading = Reading::of(word);
-        assert_eq!(rt;
-            (reading.tag, reading.under, reading.over, reading.count),
-            parts
-        );
+        let reading = Reading {
+            tag,
+            under,
+            over,
+            count,
+        };
+        assert_eq!(rt; Reading::from(word), reading);
     }
 }

@@ -1,6 +1,6 @@
 //! Runs as long as a run may be, in the room that the program lends.
 
-use crate::rooms::{FULL, becomes_in};
+use crate::rooms::{Case, FULL};
 use crate::runs::{EMPTY, EMPTY_RECORD};
 use front_ends::charge::Charge;
 use std::test::Fail;
@@ -24,8 +24,13 @@ fn push_full_event(number: u16, bytes: &mut Vec<u8>, records: &mut Vec<u8>) -> R
 fn fillers(rt: HostRuntime) -> Result<(), Fail> {
     let heap = rt.alloc();
     let bytes = vec![in heap; 0x06u8; 65536]?;
-    let said = "events 0, readings 0, dashes 0, fillers 16384";
-    becomes_in(&rt, FULL, heap, &Charge, &bytes, &[], said)
+    Case {
+        front: Charge,
+        bytes: &bytes,
+        records: &[],
+        said: "events 0, readings 0, dashes 0, fillers 16384",
+    }
+    .holds_in(&rt, heap, FULL)
 }
 
 #[test]
@@ -37,8 +42,13 @@ fn events_without_readings(rt: HostRuntime) -> Result<(), Fail> {
         bytes.extend_from_slice(EMPTY)?;
         records.extend_from_slice(EMPTY_RECORD)?;
     }
-    let said = "events 8192, readings 0, dashes 0, fillers 0";
-    becomes_in(&rt, FULL, heap, &Charge, &bytes, &records, said)
+    Case {
+        front: Charge,
+        bytes: &bytes,
+        records: &records,
+        said: "events 8192, readings 0, dashes 0, fillers 0",
+    }
+    .holds_in(&rt, heap, FULL)
 }
 
 #[test]
@@ -52,8 +62,13 @@ fn full_events(rt: HostRuntime) -> Result<(), Fail> {
     assert_eq!(rt; (bytes.len(), records.len()), (4 * 16354, 8 * 481 * 32));
     assert!(rt; records.starts_with(b"\x00\x00\x00\x03\x00\x00\x00\x00"));
     assert!(rt; records.ends_with(b"\x00\x01\xE0\x03\x1F\x02\xFF\xFF"));
-    let said = "events 481, readings 15392, dashes 481, fillers 0";
-    becomes_in(&rt, FULL, heap, &Charge, &bytes, &records, said)
+    Case {
+        front: Charge,
+        bytes: &bytes,
+        records: &records,
+        said: "events 481, readings 15392, dashes 481, fillers 0",
+    }
+    .holds_in(&rt, heap, FULL)
 }
 
 /// The last of 16384 words is a header: its end, which is missing, has place 0x4000.
@@ -62,8 +77,11 @@ fn cut_behind_the_last_word(rt: HostRuntime) -> Result<(), Fail> {
     let heap = rt.alloc();
     let mut bytes = vec![in heap; 0x06u8; 65532]?;
     bytes.extend_from_slice(b"\x1A\x05\x00\x00")?;
-    let record = b"\x00\x40\x00\x00\xFE\x10\xFF\xFF";
-    let said =
-        "events 0, readings 0, dashes 0, fillers 16383\nfault 16 at word 16384, in the item that begins at word 16383: the run ends inside the event; expected its end";
-    becomes_in(&rt, FULL, heap, &Charge, &bytes, record, said)
+    Case {
+        front: Charge,
+        bytes: &bytes,
+        records: b"\x00\x40\x00\x00\xFE\x10\xFF\xFF",
+        said: "events 0, readings 0, dashes 0, fillers 16383\nfault 16 at word 16384, in the item that begins at word 16383: the run ends inside the event; expected its end",
+    }
+    .holds_in(&rt, heap, FULL)
 }

@@ -1,6 +1,6 @@
 //! Inputs that are no whole run.
 
-use crate::rooms::{Room, becomes, becomes_in};
+use crate::rooms::{Case, Room};
 use crate::runs::{EMPTY, EMPTY_RECORD};
 use front_ends::charge::Charge;
 use std::test::Fail;
@@ -11,64 +11,71 @@ const REFUSED: [u8; 8] = [0x00, 0x00, 0x00, 0x00, 0xFE, 0x09, 0xFF, 0xFF];
 
 #[test]
 fn nothing(rt: HostRuntime) -> Result<(), Fail> {
-    let said = "events 0, readings 0, dashes 0, fillers 0";
-    becomes(&rt, rt.alloc(), &Charge, &[], &[], said)
+    Case {
+        front: Charge,
+        bytes: &[],
+        records: &[],
+        said: "events 0, readings 0, dashes 0, fillers 0",
+    }
+    .holds(&rt, rt.alloc())
 }
 
 #[test]
 fn cut_in_a_word(rt: HostRuntime) -> Result<(), Fail> {
-    let said =
-        "events 0, readings 0, dashes 0, fillers 0\nrefused 9: the input ends inside a word; expected a multiple of 4 bytes";
-    becomes(&rt, rt.alloc(), &Charge, &[0x1A], &REFUSED, said)?;
-    becomes(
-        &rt,
-        rt.alloc(),
-        &Charge,
-        &[0x06, 0, 0, 0, 0x06, 0, 0],
-        &REFUSED,
-        said,
-    )
+    let one: &[u8] = &[0x1A];
+    for bytes in [one, &[0x06, 0, 0, 0, 0x06, 0, 0]] {
+        Case {
+            front: Charge,
+            bytes,
+            records: &REFUSED,
+            said: "events 0, readings 0, dashes 0, fillers 0\nrefused 9: the input ends inside a word; expected a multiple of 4 bytes",
+        }
+        .holds(&rt, rt.alloc())?;
+    }
+    Ok(())
 }
 
 #[test]
 fn cut_in_an_event(rt: HostRuntime) -> Result<(), Fail> {
-    let said =
-        "events 0, readings 0, dashes 0, fillers 0\nfault 16 at word 2, in the item that begins at word 0: the run ends inside the event; expected its end";
-    let record = [0x00, 0x00, 0x02, 0x00, 0xFE, 0x10, 0xFF, 0xFF];
-    becomes(
-        &rt,
-        rt.alloc(),
-        &Charge,
-        &[0x1A, 0x05, 0x01, 0x00, 0x18, 0x04, 0x00, 0x64],
-        &record,
-        said,
-    )
+    Case {
+        front: Charge,
+        bytes: &[0x1A, 0x05, 0x01, 0x00, 0x18, 0x04, 0x00, 0x64],
+        records: &[0x00, 0x00, 0x02, 0x00, 0xFE, 0x10, 0xFF, 0xFF],
+        said: "events 0, readings 0, dashes 0, fillers 0\nfault 16 at word 2, in the item that begins at word 0: the run ends inside the event; expected its end",
+    }
+    .holds(&rt, rt.alloc())
 }
 
 /// 32 words fit the test's space of words, and 33 do not.
 #[test]
 fn more_than_the_words_space(rt: HostRuntime) -> Result<(), Fail> {
     let fillers = [0x06; 132];
-    let said = "events 0, readings 0, dashes 0, fillers 32";
-    becomes(&rt, rt.alloc(), &Charge, &fillers[0..128], &[], said)?;
-    let refused =
-        "events 0, readings 0, dashes 0, fillers 0\nrefused 9: the words do not fit; expected a space as long as they are";
-    becomes(&rt, rt.alloc(), &Charge, &fillers, &REFUSED, refused)
+    Case {
+        front: Charge,
+        bytes: &fillers[0..128],
+        records: &[],
+        said: "events 0, readings 0, dashes 0, fillers 32",
+    }
+    .holds(&rt, rt.alloc())?;
+    Case {
+        front: Charge,
+        bytes: &fillers,
+        records: &REFUSED,
+        said: "events 0, readings 0, dashes 0, fillers 0\nrefused 9: the words do not fit; expected a space as long as they are",
+    }
+    .holds(&rt, rt.alloc())
 }
 
 #[test]
 fn longer_than_a_run(rt: HostRuntime) -> Result<(), Fail> {
     let bytes = vec![in rt.alloc(); 0x06u8; 65540]?;
-    let refused =
-        "events 0, readings 0, dashes 0, fillers 0\nrefused 9: the input is too long; expected 65536 bytes or fewer";
-    becomes(
-        &rt,
-        rt.alloc(),
-        &Charge,
-        bytes.as_slice(),
-        &REFUSED,
-        refused,
-    )
+    Case {
+        front: Charge,
+        bytes: &bytes,
+        records: &REFUSED,
+        said: "events 0, readings 0, dashes 0, fillers 0\nrefused 9: the input is too long; expected 65536 bytes or fewer",
+    }
+    .holds(&rt, rt.alloc())
 }
 
 /// 256 bytes must be left behind the record, and be there from the first.
@@ -92,7 +99,13 @@ fn too_little_space(rt: HostRuntime) -> Result<(), Fail> {
         ),
     ] {
         let room = Room { words: 2, bytes };
-        becomes_in(&rt, room, rt.alloc(), &Charge, EMPTY, records, said)?;
+        Case {
+            front: Charge,
+            bytes: EMPTY,
+            records,
+            said,
+        }
+        .holds_in(&rt, rt.alloc(), room)?;
     }
     Ok(())
 }

@@ -29,36 +29,36 @@ pub(crate) const FULL: Room = Room {
 /// What stands in the record space before anything is written.
 const BLANK: u8 = 0xAA;
 
-/// The records must be these, the rest of the space blank, and the summary must read so.
-pub(crate) fn becomes_in<F: FrontEnd>(
-    rt: &impl Abort,
-    room: Room,
-    heap: Global,
-    front: &F,
-    bytes: &[u8],
-    records: &[u8],
-    summary: &str,
-) -> Result<(), Fail> {
-    let mut words = vec![in heap; 0u32; room.words]?;
-    let mut space = vec![in heap; BLANK; room.bytes]?;
-    let transcript = convert(front, bytes, &mut words, &mut space);
-    let said = Summary(transcript).to_string(heap)?;
-    assert_eq!(rt; said.as_str(), summary);
-    assert_eq!(rt; transcript.bytes, records.len());
-    for (i, byte) in space.iter().enumerate() {
-        assert_eq!(rt; *byte, records.get(i).copied().unwrap_or(BLANK), "at {i}");
-    }
-    Ok(())
+/// Bytes for a front end, the records that they become, and what is said of them.
+#[derive(Clone, Copy)]
+pub(crate) struct Case<'a, F> {
+    pub(crate) front: F,
+    pub(crate) bytes: &'a [u8],
+    pub(crate) records: &'a [u8],
+    pub(crate) said: &'a str,
 }
 
-/// The same, in a small room.
-pub(crate) fn becomes<F: FrontEnd>(
-    rt: &impl Abort,
-    heap: Global,
-    front: &F,
-    bytes: &[u8],
-    records: &[u8],
-    summary: &str,
-) -> Result<(), Fail> {
-    becomes_in(rt, SMALL, heap, front, bytes, records, summary)
+impl<F: FrontEnd + Copy> Case<'_, F> {
+    /// The records must stand at the front of the space, with the rest of it blank, and the summary must read so.
+    pub(crate) fn holds_in(&self, rt: &impl Abort, heap: Global, room: Room) -> Result<(), Fail> {
+        let mut words = vec![in heap; 0u32; room.words]?;
+        let mut space = vec![in heap; BLANK; room.bytes]?;
+        let transcript = convert(&self.front, self.bytes, &mut words, &mut space);
+        let said = Summary(transcript).to_string(heap)?;
+        assert_eq!(rt; said.as_str(), self.said);
+        assert_eq!(rt; transcript.bytes, self.records.len());
+        for (i, byte) in space.iter().enumerate() {
+            assert_eq!(rt;
+                *byte,
+                self.records.get(i).copied().unwrap_or(BLANK),
+                "at {i}"
+            );
+        }
+        Ok(())
+    }
+
+    /// The same, in a small room.
+    pub(crate) fn holds(&self, rt: &impl Abort, heap: Global) -> Result<(), Fail> {
+        self.holds_in(rt, heap, SMALL)
+    }
 }

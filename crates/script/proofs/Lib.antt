@@ -2,4 +2,3 @@ pub mod Blocks
 pub mod Counting
 pub mod Plain
 pub mod Scanning
-pub mod Storing

@@ -1,35 +1,38 @@
 -- Lines that are written plainly.
-use Rattle.std.proofs.Common.{◌≡◌, ℕ, zero, suc, ◌-◌, true, false, cond, eqb, List, [], ◌∷◌, ◌++◌, length, get_or, Result, refl, ap, ◌∙◌, arith}
-use Rattle.std.specs.List.{AllByRecursion}
+use Rattle.std.proofs.Common.{◌≡◌, ℕ, zero, suc, ◌-◌, Bool, true, false, eqb, filter, List, [], ◌∷◌, ◌++◌, length, drop, get_or, Result, refl, ap, ◌∙◌, one-add, arith}
+use Rattle.std.specs.List.{AllByRecursion, before_first, position_or_len, onto_first, slice_split}
 use Rattle.script.specs.declared.call.Line.{Line}
 use Rattle.script.specs.declared.mistake.Mistake.{Mistake}
-use Rattle.script.specs.declared.parts.Stop.TheVariants.{Gap, At}
 use Rattle.script.specs.Laws.{Inner, Part, spaced, plain_line, Plainly}
 use Rattle.script.specs.Lines.{line_of, parsed}
-use Rattle.script.specs.Parts.{before, onward, begins_part, gap_first, parts, unreturned}
+use Rattle.script.specs.Parts.{gap, filled, parts, unreturned}
 use Rattle.script.proofs.Scanning.{grows}
+
+abbrev gap_first : List ℕ → Bool
+gap_first [] = true
+gap_first (c ∷ cs) = gap c
 
 -- a byte that ends neither what the line says nor the line
 abbrev Said : ℕ → Type 0
 Said c = (eqb c 35 ≡ false) × (eqb c 13 ≡ false)
 
-before_gap : (cs rest : List ℕ) → AllByRecursion Inner cs → gap_first rest ≡ true → before Gap (cs ++ rest) ≡ cs
+before_gap : (cs rest : List ℕ) → AllByRecursion Inner cs → gap_first rest ≡ true → before_first gap (cs ++ rest) ≡ cs
 before_gap [] [] a g = refl
 before_gap [] (d ∷ ds) a g = simp g
-before_gap (c ∷ cs) rest a g = let e = a.0.0 in simp e (ap (λ (t : List ℕ). c ∷ t) (before_gap cs rest a.1 g))
+before_gap (c ∷ cs) rest a g = let e = a.0.0 in simp (e, one-add) (ap (λ (t : List ℕ). c ∷ t) (before_gap cs rest a.1 g))
 
-from_gap : (cs rest : List ℕ) → AllByRecursion Inner cs → gap_first rest ≡ true → onward Gap (cs ++ rest) ≡ rest
+from_gap : (cs rest : List ℕ) → AllByRecursion Inner cs → gap_first rest ≡ true → drop (position_or_len gap (cs ++ rest)) (cs ++ rest) ≡ rest
 from_gap [] [] a g = refl
 from_gap [] (d ∷ ds) a g = simp g
-from_gap (c ∷ cs) rest a g = let e = a.0.0 in simp e (from_gap cs rest a.1 g)
+from_gap (c ∷ cs) rest a g = let e = a.0.0 in simp (e, one-add) (from_gap cs rest a.1 g)
 
 one_part : (p rest : List ℕ) → Part p → gap_first rest ≡ true → parts (p ++ rest) ≡ p ∷ parts rest
 one_part [] rest h g = absurd (omega (arith, h.0))
 one_part (c ∷ cs) rest h g =
     let e = h.1.0.0 in
-    let all : cond (gap_first (cs ++ rest)) ((c ∷ []) ∷ parts (cs ++ rest)) (begins_part c (parts (cs ++ rest))) ≡ (c ∷ cs) ∷ parts rest =
+    let all : filter filled (onto_first c (slice_split gap (cs ++ rest))) ≡ (c ∷ cs) ∷ parts rest =
     grows c (cs ++ rest)
-    ∙ ap (λ (t : List ℕ). (c ∷ t) ∷ parts (onward Gap (cs ++ rest))) (before_gap cs rest h.1.1 g)
+    ∙ ap (λ (t : List ℕ). (c ∷ t) ∷ parts (drop (position_or_len gap (cs ++ rest)) (cs ++ rest))) (before_gap cs rest h.1.1 g)
     ∙ ap (λ (t : List ℕ). (c ∷ cs) ∷ parts t) (from_gap cs rest h.1.1 g) in
     simp e all
 
@@ -57,9 +60,9 @@ said_line : (ps : List (List ℕ)) → AllByRecursion Part ps → AllByRecursion
 said_line [] a = tt
 said_line (p ∷ ps) a = said_after p (spaced ps) a.0.1 (said_spaced ps a.1)
 
-uncommented : (bs : List ℕ) → AllByRecursion Said bs → before (At 35) bs ≡ bs
+uncommented : (bs : List ℕ) → AllByRecursion Said bs → before_first (λ c. eqb c 35) bs ≡ bs
 uncommented [] a = refl
-uncommented (c ∷ cs) a = let e = a.0.0 in simp e (ap (λ (t : List ℕ). c ∷ t) (uncommented cs a.1))
+uncommented (c ∷ cs) a = let e = a.0.0 in simp (e, one-add) (ap (λ (t : List ℕ). c ∷ t) (uncommented cs a.1))
 
 no_return : (bs : List ℕ) (i : ℕ) → AllByRecursion Said bs → eqb (get_or bs i 0) 13 ≡ false
 no_return [] i a = refl
@@ -73,7 +76,7 @@ plainly bs r e ps a h =
     let n = no_return line (length line - 1) s in
     let whole : unreturned line ≡ line = simp n in
     e
-    ∙ ap (λ (t : List ℕ). line_of (parts (before (At 35) (unreturned t)))) h
-    ∙ ap (λ (t : List ℕ). line_of (parts (before (At 35) t))) whole
+    ∙ ap (λ (t : List ℕ). line_of (parts (before_first (λ c. eqb c 35) (unreturned t)))) h
+    ∙ ap (λ (t : List ℕ). line_of (parts (before_first (λ c. eqb c 35) t))) whole
     ∙ ap (λ (t : List ℕ). line_of (parts t)) (uncommented line s)
     ∙ ap line_of (line_parts ps a)

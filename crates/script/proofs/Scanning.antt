@@ -1,69 +1,79 @@
--- Bytes before a stop, and the parts of a line.
-use Rattle.std.proofs.Common.{◌≡◌, ℕ, suc, ◌+◌, ◌<◌, ◌≤◌, true, false, cond, List, [], ◌∷◌, length, get_or, take, drop, sym, refl, ap, inl, inr, arith}
-use Rattle.std.proofs.lemmas.List.{at_drop_more, at_drop_all}
-use Rattle.std.proofs.lemmas.Bool.{cases_Bool}
-use Rattle.script.specs.declared.parts.Stop.{Stop}
-use Rattle.script.specs.declared.parts.Stop.TheVariants.{Gap, Solid}
-use Rattle.script.specs.Parts.{gap, stops, before, onward, begins_part, gap_first, parts, unreturned}
+-- The parts of a line, part by part.
+use Rattle.std.proofs.Common.{◌≡◌, ℕ, suc, ◌<◌, ◌≤◌, not, Some, None, List, [], ◌∷◌, length, take, drop, refl, ap, ◌∙◌, inl, inr, one-add, unwrap_or, Option, arith}
+use Rattle.std.specs.Prelude.{position, Bool, filter}
+use Rattle.std.specs.List.{before_first, position_or_len, onto_first, slice_split}
+use Rattle.std.proofs.lemmas.Bool.{cases_Bool, cases_lt, lt-ltb, le-ltb}
+use Rattle.std.proofs.lemmas.List.Sums.{prefix_len-le-length}
+use Rattle.script.specs.Parts.{gap, solid, filled, parts}
 
-pub take_before : (s : Stop) (bs : List ℕ) → take (length (before s bs)) bs ≡ before s bs
-take_before s [] = refl
-take_before s (c ∷ cs) =
-    elim (stops s c) as (λ v. take (length (cond v [] (c ∷ before s cs))) (c ∷ cs) ≡ cond v [] (c ∷ before s cs)) [
-      | true ↦ refl
-      | false ↦ ap (λ (t : List ℕ). c ∷ t) (take_before s cs)
-    ]
-
-pub drop_before : (s : Stop) (bs : List ℕ) → drop (length (before s bs)) bs ≡ onward s bs
-drop_before s [] = refl
-drop_before s (c ∷ cs) =
-    elim (stops s c) as (λ v. drop (length (cond v [] (c ∷ before s cs))) (c ∷ cs) ≡ cond v (c ∷ cs) (onward s cs)) [
-      | true ↦ refl
-      | false ↦ drop_before s cs
-    ]
-
-pub before_short : (s : Stop) (bs : List ℕ) → length (before s bs) ≤ length bs
-before_short s [] = omega arith
-before_short s (c ∷ cs) =
-    let h = before_short s cs in
-    elim (stops s c) as (λ v. length (cond v [] (c ∷ before s cs)) ≤ suc (length cs)) [ true ↦ omega arith | false ↦ omega arith ]
-
--- one byte more that does not stop
-pub before_more : (s : Stop) (bs : List ℕ) (i n : ℕ) → i < length bs → stops s (get_or bs i 0) ≡ false → i + length (before s (drop i bs)) ≡ n → (i + 1) + length (before s (drop (i + 1) bs)) ≡ n
-before_more s bs i n l e h =
-    let m = at_drop_more (λ t. length (before s t)) bs i 0 l in
-    let k : length (before s (get_or bs i 0 ∷ drop (i + 1) bs)) ≡ suc (length (before s (drop (i + 1) bs))) = simp e in
-    omega arith
-
--- the byte that stops
-pub before_stop : (s : Stop) (bs : List ℕ) (i n : ℕ) → i < length bs → stops s (get_or bs i 0) ≡ true → i + length (before s (drop i bs)) ≡ n → i ≡ n
-before_stop s bs i n l e h =
-    let m = at_drop_more (λ t. length (before s t)) bs i 0 l in
-    let k : length (before s (get_or bs i 0 ∷ drop (i + 1) bs)) ≡ 0 = simp e in
-    omega arith
-
-pub before_all : (s : Stop) (bs : List ℕ) (i : ℕ) → i ≤ length bs → length bs ≤ i → i + length (before s (drop i bs)) ≡ length (before s bs) → length bs ≡ length (before s bs)
-before_all s bs i m l h =
-    let e = at_drop_all (λ t. length (before s t)) bs i l in
-    omega arith
+first_full : (c d : ℕ) (ps : List (List ℕ)) → filter filled (onto_first c (onto_first d ps)) ≡ onto_first c (filter filled (onto_first d ps))
+first_full c d [] = refl
+first_full c d (p ∷ ps) = refl
 
 -- a part goes on up to the gap
-pub grows : (c : ℕ) (cs : List ℕ) → cond (gap_first cs) ((c ∷ []) ∷ parts cs) (begins_part c (parts cs)) ≡ (c ∷ before Gap cs) ∷ parts (onward Gap cs)
+pub grows : (c : ℕ) (cs : List ℕ) → filter filled (onto_first c (slice_split gap cs)) ≡ (c ∷ before_first gap cs) ∷ parts (drop (position_or_len gap cs) cs)
 grows c [] = refl
-grows c (d ∷ ds) = elim (cases_Bool (gap d)) [ inl e ↦ simp e | inr e ↦ simp e (ap (begins_part c) (grows d ds)) ]
+grows c (d ∷ ds) =
+    elim (cases_Bool (gap d)) [
+      | inl e ↦ simp e
+      | inr e ↦ simp (e, one-add) (first_full c d (slice_split gap ds) ∙ ap (onto_first c) (grows d ds))
+    ]
 
-pub first_part : (bs : List ℕ) → 0 < length (onward Solid bs) → before Gap (onward Solid bs) ∷ parts (onward Gap (onward Solid bs)) ≡ parts bs
+-- what is left from the first part on
+abbrev begun : List ℕ → List ℕ
+begun bs = drop (position_or_len solid bs) bs
+
+first_part : (bs : List ℕ) → position_or_len solid bs < length bs → parts bs ≡ before_first gap (begun bs) ∷ parts (drop (position_or_len gap (begun bs)) (begun bs))
 first_part [] l = absurd (omega arith)
-first_part (c ∷ cs) l = elim (cases_Bool (gap c)) [ inl e ↦ simp e (first_part cs (simp e at l)) | inr e ↦ simp e (sym (grows c cs)) ]
+first_part (c ∷ cs) l =
+    elim (cases_Bool (gap c)) [
+      | inl e ↦
+          let m : suc (position_or_len solid cs) < suc (length cs) = simp (e, one-add) at l in
+          simp (e, one-add) (first_part cs (omega arith))
+      | inr e ↦ simp (e, one-add) (grows c cs)
+    ]
 
-pub no_part : (bs : List ℕ) → length (onward Solid bs) ≡ 0 → [] ≡ parts bs
+no_part : (bs : List ℕ) → length bs ≤ position_or_len solid bs → [] ≡ parts bs
 no_part [] l = refl
 no_part (c ∷ cs) l =
     elim (cases_Bool (gap c)) [
-      | inl e ↦ simp e (no_part cs (simp e at l))
-      | inr e ↦ let z : suc (length cs) ≡ 0 = simp e at l in absurd (omega arith)
+      | inl e ↦
+          let m : suc (length cs) ≤ suc (position_or_len solid cs) = simp (e, one-add) at l in
+          simp e (no_part cs (omega arith))
+      | inr e ↦ let m : suc (length cs) ≤ 0 = simp e at l in absurd (omega arith)
     ]
 
-pub empty_unreturned : (bs : List ℕ) → length bs ≡ 0 → bs ≡ unreturned bs
-empty_unreturned [] l = refl
-empty_unreturned (c ∷ cs) l = absurd (omega arith)
+pub none_left : (bs : List ℕ) → None ≡ position solid bs → [] ≡ parts bs
+none_left bs h =
+    elim (cases_lt (position_or_len solid bs) (length bs)) [
+      | inl l ↦ let t = lt-ltb _ _ l in let z : None ≡ Some (position_or_len solid bs) = h ∙ simp t in cc
+      | inr l ↦ no_part bs l
+    ]
+
+-- the place, or else the length
+or_length : (p : ℕ → Bool) (bs : List ℕ) → unwrap_or (position p bs) (length bs) ≡ position_or_len p bs
+or_length p bs =
+    elim (cases_lt (position_or_len p bs) (length bs)) [
+      | inl l ↦ let t = lt-ltb _ _ l in simp t
+      | inr l ↦ let t = le-ltb _ _ l in let m = prefix_len-le-length (λ x. not (p x)) bs in simp t (omega arith)
+    ]
+
+found : (bs : List ℕ) (i : ℕ) → Some i ≡ position solid bs → (i ≡ position_or_len solid bs) × (position_or_len solid bs < length bs)
+found bs i h =
+    elim (cases_lt (position_or_len solid bs) (length bs)) [
+      | inl l ↦ let t = lt-ltb _ _ l in let z : Some i ≡ Some (position_or_len solid bs) = h ∙ simp t in (cc, l)
+      | inr l ↦ let t = le-ltb _ _ l in let z : Some i ≡ None = h ∙ simp t in cc
+    ]
+
+pub next_part : (bs : List ℕ) (i n : ℕ) (e : Option ℕ) → Some i ≡ position solid bs → e ≡ position gap (drop i bs) → n ≡ unwrap_or e (length (drop i bs))
+    → parts bs ≡ take n (drop i bs) ∷ parts (drop n (drop i bs))
+next_part bs i n e h g k =
+    let f = found bs i h in
+    let m : n ≡ position_or_len gap (drop i bs) = k ∙ ap (λ (o : Option ℕ). unwrap_or o (length (drop i bs))) g ∙ or_length gap (drop i bs) in
+    rw (m, f.0) (first_part bs f.1)
+
+pub part_within : (bs : List ℕ) (n : ℕ) (e : Option ℕ) → e ≡ position gap bs → n ≡ unwrap_or e (length bs) → n ≤ length bs
+part_within bs n e g k =
+    let m : n ≡ position_or_len gap bs = k ∙ ap (λ (o : Option ℕ). unwrap_or o (length bs)) g ∙ or_length gap bs in
+    let l = prefix_len-le-length (λ x. not (gap x)) bs in
+    omega arith

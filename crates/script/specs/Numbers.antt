@@ -1,5 +1,6 @@
 -- Numerals of any length, and the range of each number.
-use Rattle.std.specs.Prelude.{ℕ, ◌+◌, ◌-◌, ◌*◌, min, Bool, cond, ◌&&◌, List, [], ◌∷◌, drop, Some, None, Ok, Err, Option, Result, ◌==◌, nat_le, nat_lt, slice_index}
+use Rattle.std.specs.Prelude.{ℕ, ◌+◌, ◌-◌, ◌*◌, ◌^◌, min, Bool, if◌then◌else◌, ◌&&◌, List, [], ◌∷◌, drop, Some, None, Ok, Err, Option, Result, option_map, ◌==◌, nat_le, nat_lt, slice_index}
+use Rattle.std.specs.Char.{digit_value}
 use Rattle.script.specs.declared.mistake.Place.{Place}
 use Rattle.script.specs.declared.mistake.Place.TheVariants.{Signal, Reading, Times, Offset, Value, Length}
 use Rattle.script.specs.declared.mistake.Flaw.TheVariants.{NoNumber, OutOfRange}
@@ -9,14 +10,10 @@ use Rattle.script.specs.declared.mistake.Mistake.TheVariants.{Number}
 abbrev pub between : ℕ → ℕ → ℕ → Bool
 between a b c = nat_le a c && nat_le c b
 
--- the value of a digit, of either case; 16 of any other byte
-abbrev pub figure_of : ℕ → ℕ
-figure_of c = cond (between 48 57 c) (c - 48) (cond (between 65 70 c) (c - 55) (cond (between 97 102 c) (c - 87) 16))
-
--- digits in a base, after the number n
+-- digits in a base, of either case, after the number n
 abbrev pub numeral : ℕ → ℕ → List ℕ → Option ℕ
 numeral base n [] = Some n
-numeral base n (c ∷ cs) = cond (nat_lt (figure_of c) base) (numeral base (n * base + figure_of c) cs) None
+numeral base n (c ∷ cs) = if nat_lt (digit_value c) base then numeral base (n * base + digit_value c) cs else None
 
 -- one digit at least
 abbrev pub numeral_of : ℕ → List ℕ → Option ℕ
@@ -28,12 +25,11 @@ hexadecimal bs = slice_index bs 0 == 48 && slice_index bs 1 == 120
 
 -- hexadecimal after 0x, decimal without
 abbrev pub number_of : List ℕ → Option ℕ
-number_of bs = cond (hexadecimal bs) (numeral_of 16 (drop 2 bs)) (numeral_of 10 bs)
+number_of bs = if hexadecimal bs then numeral_of 16 (drop 2 bs) else numeral_of 10 bs
 
 -- a number past every range is as good as any other such
 abbrev pub capped : Option ℕ → Option ℕ
-capped None = None
-capped (Some n) = Some (min n 65536)
+capped o = option_map (λ n. min n (2 ^ 32 - 1)) o
 
 abbrev pub least_of : Place → ℕ
 least_of Signal = 0
@@ -53,7 +49,7 @@ most_of Length = 64
 
 abbrev pub in_range : Place → Option ℕ → Result ℕ Mistake
 in_range p None = Err (Number p NoNumber)
-in_range p (Some n) = cond (between (least_of p) (most_of p) n) (Ok n) (Err (Number p OutOfRange))
+in_range p (Some n) = if between (least_of p) (most_of p) n then Ok n else Err (Number p OutOfRange)
 
 abbrev pub number_in : Place → List ℕ → Result ℕ Mistake
 number_in p bs = in_range p (number_of bs)

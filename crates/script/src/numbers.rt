@@ -1,46 +1,30 @@
 //! Numbers, decimal or hexadecimal, and the range of each.
 
-ghost use Rattle.std.specs.Prelude.{◌≡◌, ◌<◌, ◌≤◌};
-ghost use Rattle.script.specs.Numbers.{figure_of, numeral_of, number_of, capped, least_of, most_of, number_in};
+ghost use Rattle.std.specs.Prelude.{◌≡◌, ◌≤◌, false};
+ghost use Rattle.std.specs.Range.{range_inclusive_start, range_inclusive_end, range_inclusive_exhausted};
+ghost use Rattle.script.specs.Numbers.{numeral_of, number_of, capped, least_of, most_of, number_in};
 
 use crate::mistake::{Flaw, Mistake, Place};
+use std::ops::RangeInclusive;
 
-/// Past the range of every number: a larger one is not told from it.
-const PAST: u32 = 65536;
-
-/// The value of a digit, or 16 of any other byte.
-fn figure(byte: u8) -> u8
-    ensures { result ≡ figure_of byte }
-{
-    match byte {
-        b'0'..=b'9' => byte - b'0',
-        b'A'..=b'F' => byte - b'A' + 10,
-        b'a'..=b'f' => byte - b'a' + 10,
-        _ => 16,
-    }
-}
-
-/// The number that the digits write, up to `PAST`.
-fn numeral(base: u8, digits: &[u8]) -> Option<u32>
-    requires base_nonzero { 0 < base }
-    requires base_bound { base ≤ 16 }
+/// The number that the digits write; one past `u32` stops there. (`from_str_radix` takes a sign, and at a number
+/// past its type it does not look at the bytes that follow.)
+fn numeral(base: u32, digits: &[u8]) -> Option<u32>
+    requires base_low { 2 ≤ base }
+    requires base_high { base ≤ 16 }
     ensures { result ≡ capped (numeral_of base digits.now) }
 {
     if digits.is_empty() {
         return None;
     }
-    let mut number = 0;
+    let mut number = 0u32;
     for byte in digits {
-        let figure = figure(*byte);
-        if figure >= base {
-            return None;
-        }
-        number = (number * u32::from(base) + u32::from(figure)).min(PAST);
+        let digit = char::from(*byte).to_digit(base)?;
+        number = number.saturating_mul(base).saturating_add(digit);
     }
     Some(number)
 }
 
-/// The number that the bytes write, up to `PAST`.
 fn number(bytes: &[u8]) -> Option<u32>
     ensures { result ≡ capped (number_of bytes.now) }
 {
@@ -50,23 +34,16 @@ fn number(bytes: &[u8]) -> Option<u32>
     }
 }
 
-fn least(place: Place) -> u32
-    ensures { result ≡ least_of place }
+fn range(place: Place) -> RangeInclusive<u16>
+    ensures start { range_inclusive_start result ≡ least_of place }
+    ensures end { range_inclusive_end result ≡ most_of place }
+    ensures whole { range_inclusive_exhausted result ≡ false }
 {
     match place {
-        Place::Times => 1,
-        _ => 0,
-    }
-}
-
-fn most(place: Place) -> u32
-    ensures is { result ≡ most_of place }
-    ensures fits { result < 65536 }
-{
-    match place {
-        Place::Signal => 255,
-        Place::Reading | Place::Offset | Place::Value => 65535,
-        Place::Times | Place::Length => 64,
+        Place::Signal => 0..=255,
+        Place::Reading | Place::Offset | Place::Value => 0..=65535,
+        Place::Times => 1..=64,
+        Place::Length => 0..=64,
     }
 }
 
@@ -74,11 +51,9 @@ fn most(place: Place) -> u32
 pub(crate) fn number_in(place: Place, bytes: &[u8]) -> Result<u16, Mistake>
     ensures { result ≡ number_in place bytes.now }
 {
-    let Some(number) = number(bytes) else {
-        return Err(Mistake::Number(place, Flaw::NoNumber));
-    };
-    if number < least(place) || number > most(place) {
-        return Err(Mistake::Number(place, Flaw::OutOfRange));
+    let number = number(bytes).ok_or(Mistake::Number(place, Flaw::NoNumber))?;
+    match u16::try_from(number) {
+        Ok(number) if range(place).contains(&number) => Ok(number),
+        _ => Err(Mistake::Number(place, Flaw::OutOfRange)),
     }
-    Ok(number as u16)
 }

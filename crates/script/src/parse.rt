@@ -3,51 +3,41 @@
 ghost use Rattle.std.specs.Prelude.{◌≡◌};
 ghost use Rattle.script.specs.Laws.{Plainly};
 ghost use Rattle.script.specs.Lines.{kind_of, board_of, line_of, parsed, ShortBlock};
-ghost use Rattle.script.specs.Parts.{parts};
 
-use crate::call::{Kind, Line};
-use crate::calls::{expect_end, named, parse_call};
+use crate::call::Line;
+use crate::calls::parse_call;
 use crate::mistake::Mistake;
-use crate::parts::{is, next_part, said_by};
+use crate::parts::{Parts, said_by};
+use front_ends::kind::Kind;
 
 fn parse_kind(part: &[u8]) -> Result<Kind, Mistake>
     ensures { result ≡ kind_of part.now }
 {
-    if is(part, "time") {
-        Ok(Kind::Time)
-    } else if is(part, "charge") {
-        Ok(Kind::Charge)
-    } else {
-        Err(Mistake::BoardKind)
+    match part {
+        b"time" => Ok(Kind::Time),
+        b"charge" => Ok(Kind::Charge),
+        _ => Err(Mistake::BoardKind),
     }
 }
 
-fn parse_board(bytes: &[u8]) -> Result<Kind, Mistake>
-    ensures { result ≡ board_of (parts bytes.now) }
+fn parse_board(mut parts: Parts) -> Result<Kind, Mistake>
+    ensures { result ≡ board_of parts.entry }
 {
-    let Some(cut) = next_part(bytes) else {
-        return Err(Mistake::BoardKind);
-    };
-    let kind = parse_kind(cut.part)?;
-    expect_end(cut.rest)?;
+    let kind = parse_kind(parts.next().ok_or(Mistake::BoardKind)?)?;
+    parts.end()?;
     Ok(kind)
 }
 
-fn parse_said(said: &[u8]) -> Result<Line, Mistake>
-    ensures { result ≡ line_of (parts said.now) }
+fn parse_parts(mut parts: Parts) -> Result<Line, Mistake>
+    ensures { result ≡ line_of parts.entry }
 {
-    let Some(cut) = next_part(said) else {
+    let Some(name) = parts.next() else {
         return Ok(Line::Blank);
     };
-    if is(cut.part, "board") {
-        let kind = parse_board(cut.rest)?;
-        return Ok(Line::Board(kind));
+    match name {
+        b"board" => Ok(Line::Board(parse_board(parts)?)),
+        _ => Ok(Line::Call(parse_call(name, parts)?)),
     }
-    let Some(name) = named(cut.part) else {
-        return Err(Mistake::UnknownCall);
-    };
-    let call = parse_call(name, cut.rest)?;
-    Ok(Line::Call(call))
 }
 
 /// What the line says, or why it is not understood. Any bytes may stand in it.
@@ -57,5 +47,5 @@ pub fn parse(line: &[u8]) -> Result<Line, Mistake>
     ensures block { ShortBlock result }
     ensures plainly { Plainly line.now result }
 {
-    parse_said(said_by(line))
+    parse_parts(Parts::of(said_by(line)))
 }

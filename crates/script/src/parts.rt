@@ -1,25 +1,27 @@
 //! A line, cut into its parts.
 
-ghost use Rattle.std.specs.Prelude.{◌≡◌, ◌≤◌, length};
-ghost use Rattle.std.specs.Str.{bytes_eq};
-ghost use Rattle.script.specs.Parts.{stops, gap, before, onward, parts, whole, unreturned, said};
+ghost use Rattle.std.specs.Prelude.{◌≡◌, drop, position, ◌==◌};
+ghost use Rattle.std.specs.Iterator.{YieldsFirstRef, item_count};
+ghost use Rattle.script.specs.Calls.{first_number, ended};
+ghost use Rattle.script.specs.Parts.{gap, solid, parts, pair_of, split_once, unreturned, said};
 
-/// Where a stretch of bytes ends.
-#[derive(Clone, Copy)]
-pub(crate) enum Stop {
-    /// Before a space or a tab.
-    Gap,
-    /// Before a byte that is neither.
-    Solid,
-    /// Before this byte.
-    At(u8),
+use crate::mistake::{Flaw, Mistake, Place};
+use crate::numbers::number_in;
+use std::marker::Model;
+
+/// The parts that are still to come: the runs of bytes between spaces and tabs.
+#[derive(Drop)]
+pub(crate) struct Parts<'a> {
+    rest: &'a [u8],
 }
 
-/// The first part of some bytes, and the bytes after it.
-#[derive(Clone, Copy)]
-pub(crate) struct Cut<'a> {
-    pub(crate) part: &'a [u8],
-    pub(crate) rest: &'a [u8],
+impl<'a> Model for Parts<'a> {
+    ghost use Rattle.std.specs.Prelude.{ℕ, List};
+    ghost use Rattle.script.specs.Parts.{parts};
+
+    ghost Value = { List (List ℕ) };
+
+    ghost view = { λ p. parts p.rest.now };
 }
 
 fn is_gap(byte: u8) -> bool
@@ -28,77 +30,96 @@ fn is_gap(byte: u8) -> bool
     byte == b' ' || byte == b'\t'
 }
 
-fn stops_at(stop: Stop, byte: u8) -> bool
-    ensures { result ≡ stops stop byte }
+// Each search is a function of its own: past a `?` or a second search the check no longer sees what the first one found.
+
+/// Where the first part begins.
+fn part_start(bytes: &[u8]) -> Option<usize>
+    ensures { result ≡ position solid bytes.now }
 {
-    match stop {
-        Stop::Gap => is_gap(byte),
-        Stop::Solid => !is_gap(byte),
-        Stop::At(at) => byte == at,
-    }
+    bytes.iter().position(|byte| !is_gap(*byte))
 }
 
-/// How many bytes stand before the stop.
-fn length_before(bytes: &[u8], stop: Stop) -> usize
-    ensures is { result ≡ length (before stop bytes.now) }
-    ensures within { result ≤ length bytes.now }
+/// Where the part ends with which the bytes begin, if it ends before them.
+fn part_end(bytes: &[u8]) -> Option<usize>
+    ensures { result ≡ position gap bytes.now }
 {
-    for (i, byte) in bytes.iter().enumerate() {
-        if stops_at(stop, *byte) {
-            return i;
+    bytes.iter().position(|byte| is_gap(*byte))
+}
+
+fn place_of(byte: u8, bytes: &[u8]) -> Option<usize>
+    ensures { result ≡ position (λ c. c == byte) bytes.now }
+{
+    bytes.iter().position(|other| *other == byte)
+}
+
+impl<'a> Parts<'a> {
+    pub(crate) fn of(bytes: &'a [u8]) -> Parts<'a>
+        ensures { result ≡ parts bytes.now }
+    {
+        Parts { rest: bytes }
+    }
+
+    /// The number that the next part writes.
+    pub(crate) fn number(&mut self, place: Place) -> Result<u16, Mistake>
+        ensures is { result ≡ first_number place self.old }
+        ensures rest { self.new ≡ drop 1 self.old }
+    {
+        let missing = Mistake::Number(place, Flaw::Missing);
+        number_in(place, self.next().ok_or(missing)?)
+    }
+
+    /// No part is left.
+    pub(crate) fn end(&mut self) -> Result<(), Mistake>
+        ensures { result ≡ ended self.old }
+    {
+        match self.next() {
+            None => Ok(()),
+            Some(_) => Err(Mistake::Surplus),
         }
     }
-    bytes.len()
 }
 
-/// The bytes before the stop, and those from there on.
-pub(crate) fn split<'a>(bytes: &'a [u8], stop: Stop) -> Cut<'a>
-    ensures part { result.part.now ≡ before stop bytes.now }
-    ensures rest { result.rest.now ≡ onward stop bytes.now }
-{
-    let length = length_before(bytes, stop);
-    Cut {
-        part: &bytes[0..length],
-        rest: &bytes[length..],
+impl<'a> Iterator for Parts<'a> {
+    type Item = &'a [u8];
+
+    ghost next_gives = { YieldsFirstRef (λ s. s) };
+
+    ghost remaining = { item_count (λ s. s) };
+
+    fn next(&mut self) -> Option<&'a [u8]> {
+        let start = part_start(self.rest)?;
+        let begun = &self.rest[start..];
+        let (part, rest) = begun.split_at(part_end(begun).unwrap_or(begun.len()));
+        self.rest = rest;
+        Some(part)
     }
-}
-
-/// The part is this word.
-pub(crate) fn is(part: &[u8], word: &str) -> bool
-    ensures { result ≡ bytes_eq part.now word.now }
-{
-    part == word.as_bytes()
-}
-
-/// The first part of the bytes, if there is one.
-pub(crate) fn next_part<'a>(bytes: &'a [u8]) -> Option<Cut<'a>>
-    ensures { whole result ≡ parts bytes.now }
-{
-    let bytes = split(bytes, Stop::Solid).rest;
-    if bytes.is_empty() {
-        return None;
-    }
-    Some(split(bytes, Stop::Gap))
 }
 
 /// The line without the carriage return at its end.
-fn without_return<'a>(line: &'a [u8]) -> &'a [u8]
+fn without_return(line: &[u8]) -> &[u8]
     ensures { result.now ≡ unreturned line.now }
 {
-    if line.is_empty() {
-        return line;
-    }
-    let last = line.len() - 1;
-    if line[last] == b'\r' {
-        &line[0..last]
-    } else {
-        line
+    match line {
+        [start @ .., b'\r'] => start,
+        _ => line,
     }
 }
 
+/// What stands before the first such byte, and what stands behind it.
+pub(crate) fn split_once(at: u8, bytes: &[u8]) -> Option<(&[u8], &[u8])>
+    ensures { pair_of result ≡ split_once at bytes.now }
+{
+    let place = place_of(at, bytes)?;
+    Some((&bytes[..place], &bytes[place + 1..]))
+}
+
 /// What the line says: neither its comment nor the carriage return at its end.
-pub(crate) fn said_by<'a>(line: &'a [u8]) -> &'a [u8]
+pub(crate) fn said_by(line: &[u8]) -> &[u8]
     ensures { result.now ≡ said line.now }
 {
-    split(without_return(line), Stop::At(b'#')).part
+    let line = without_return(line);
+    match split_once(b'#', line) {
+        Some((said, _)) => said,
+        None => line,
+    }
 }

@@ -81,13 +81,11 @@ fn repetitions(rt: HostRuntime) -> Result<(), Fail> {
 
 /// How many readings a gate's line brings, and the last of them; none where it is not understood.
 fn counted(line: &[u8]) -> Option<(usize, u16)> {
-    match parse(line) {
-        Ok(Line::Call(Call::Gate { readings, .. })) => match readings.as_slice() {
-            [.., last] => Some((readings.as_slice().len(), *last)),
-            [] => None,
-        },
-        _ => None,
-    }
+    let Ok(Line::Call(Call::Gate { readings, .. })) = parse(line) else {
+        return None;
+    };
+    let readings = readings.as_slice();
+    Some((readings.len(), *readings.last()?))
 }
 
 #[test]

@@ -1,11 +1,23 @@
 //! What is printed of each answer.
 
-use answers::gated::Gated;
 use answers::refusal::Refusal;
+use arrayvec::ArrayVec;
 use script::mistake::Mistake;
-use script_text::reply::{Answer, Drawn, MOST_WORDS, Reply};
+use script_text::reply::{Answer, Drawn, Reply};
 use std::process::Abort;
 use std::test::Fail;
+
+fn check_told(
+    rt: &(impl Abort + AllocGlobal),
+    line: u64,
+    told: Result<Answer, Mistake>,
+    text: &str,
+) -> Result<(), Fail> {
+    let reply = Reply { line, told };
+    let printed = format!(in rt.alloc(); "{reply}")?;
+    assert_eq!(rt; printed.as_str(), text);
+    Ok(())
+}
 
 fn check_reply(
     rt: &(impl Abort + AllocGlobal),
@@ -13,30 +25,16 @@ fn check_reply(
     answer: Answer,
     text: &str,
 ) -> Result<(), Fail> {
-    let reply = Reply {
-        line,
-        told: Ok(answer),
-    };
-    let printed = format!(in rt.alloc(); "{reply}")?;
-    assert_eq!(rt; printed.as_str(), text);
-    Ok(())
+    check_told(rt, line, Ok(answer), text)
 }
 
 #[test]
 fn gates(rt: HostRuntime) -> Result<(), Fail> {
-    let stored = Gated {
-        stored: true,
-        kept: 5,
-    };
-    let not_stored = Gated {
-        stored: false,
-        kept: 0,
-    };
-    check_reply(&rt, 3, Answer::Gate(Ok(stored)), "3: gate: stored, 5 kept")?;
+    check_reply(&rt, 3, Answer::Gate(Ok(Some(5))), "3: gate: stored, 5 kept")?;
     check_reply(
         &rt,
         4,
-        Answer::Gate(Ok(not_stored)),
+        Answer::Gate(Ok(None)),
         "4: gate: not stored, 0 kept",
     )?;
     check_reply(
@@ -102,25 +100,24 @@ fn waits(rt: HostRuntime) -> Result<(), Fail> {
     )
 }
 
-fn drawn(words: &[u32]) -> Drawn {
-    let count = words.len().min(MOST_WORDS);
-    let mut block = [0; MOST_WORDS];
-    block[0..count].copy_from_slice(&words[0..count]);
-    Drawn { block, count }
+fn drawn<const N: usize>(rt: &impl Abort, row: [u32; N]) -> Drawn {
+    let mut words = ArrayVec::new();
+    words.try_extend_from_slice(&row).expect(rt, "a block");
+    Drawn { words }
 }
 
 #[test]
 fn draws(rt: HostRuntime) -> Result<(), Fail> {
-    let event = drawn(&[0x1A05_0200, 0x1804_0064, 0x1805_0320, 0x1C00_0007]);
+    let event = drawn(&rt, [0x1A05_0200, 0x1804_0064, 0x1805_0320, 0x1C00_0007]);
     check_reply(
         &rt,
         8,
         Answer::Draw(Ok(event)),
         "8: draw: 4 words: 0x1A050200 0x18040064 0x18050320 0x1C000007",
     )?;
-    let none = drawn(&[]);
+    let none = drawn(&rt, []);
     check_reply(&rt, 8, Answer::Draw(Ok(none)), "8: draw: 0 words:")?;
-    let two = drawn(&[0, 0xFEDC_BA98]);
+    let two = drawn(&rt, [0, 0xFEDC_BA98]);
     check_reply(
         &rt,
         8,
@@ -189,12 +186,7 @@ fn mistakes(rt: HostRuntime) -> Result<(), Fail> {
             "2: not understood: the board is named already; expected one board in a script",
         ),
     ] {
-        let reply = Reply {
-            line: 2,
-            told: Err(mistake),
-        };
-        let printed = format!(in rt.alloc(); "{reply}")?;
-        assert_eq!(rt; printed.as_str(), text);
+        check_told(&rt, 2, Err(mistake), text)?;
     }
     Ok(())
 }

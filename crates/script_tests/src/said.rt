@@ -1,19 +1,18 @@
 //! What a line says, as text that can be compared: numbers are decimal, and a mistake is told as a program tells it.
 
-use script::call::{Call, Kind, Line};
+use script::call::{Call, Line};
 use script::parse::parse;
 use script_text::reply::Reply;
 use std::alloc::{AllocError, Global};
 use std::process::Abort;
 use std::test::Fail;
 
-fn said_by_call(heap: Global, call: Call) -> Result<String, AllocError> {
+fn said_by_call(heap: Global, call: &Call) -> Result<String, AllocError> {
     match call {
         Call::Gate { signal, readings } => {
             let mut text = format!(in heap; "gate {signal}:")?;
             for reading in readings.as_slice() {
-                let more = format!(in heap; " {reading}")?;
-                text.push_str(more.as_str())?;
+                write!(text, " {reading}")?;
             }
             Ok(text)
         }
@@ -27,9 +26,8 @@ fn said_by_call(heap: Global, call: Call) -> Result<String, AllocError> {
 fn said(heap: Global, line: &[u8]) -> Result<String, AllocError> {
     match parse(line) {
         Ok(Line::Blank) => String::from_str(heap, "blank"),
-        Ok(Line::Board(Kind::Time)) => String::from_str(heap, "board time"),
-        Ok(Line::Board(Kind::Charge)) => String::from_str(heap, "board charge"),
-        Ok(Line::Call(call)) => said_by_call(heap, call),
+        Ok(Line::Board(kind)) => format!(in heap; "board {kind}"),
+        Ok(Line::Call(call)) => said_by_call(heap, &call),
         Err(mistake) => {
             let reply = Reply {
                 line: 1,

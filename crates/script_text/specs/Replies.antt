@@ -1,22 +1,22 @@
 -- The line that tells what a line of a script came to.
-use Rattle.std.specs.Prelude.{ℕ, cond, List, [], ◌∷◌, ◌++◌, length, take, Ok, Err, codes, decimal, Result}
-use Rattle.answers.specs.declared.gated.Gated.{Gated}
+use Rattle.std.specs.Prelude.{ℕ, List, ◌++◌, length, Some, None, Ok, Err, codes, decimal, Option, Result, flat_map}
 use Rattle.answers.specs.declared.refusal.Refusal.{Refusal}
+use Rattle.answers.specs.Refusals.{refused_text}
 use Rattle.script.specs.declared.mistake.Mistake.{Mistake}
+use Rattle.script.specs.Reasons.{reason_of}
 use Rattle.script_text.specs.declared.reply.Answer.{Answer}
 use Rattle.script_text.specs.declared.reply.Answer.TheVariants.{Gate, Write, Read, Waiting, Draw}
 use Rattle.script_text.specs.declared.reply.Drawn.{Drawn}
 use Rattle.script_text.specs.declared.reply.Reply.{Reply}
 use Rattle.script_text.specs.Digits.{four_digits, eight_digits}
-use Rattle.reasons.specs.Reasons.{reason_of, refused_text}
 
 -- each word after a space
 abbrev pub words_text : List ℕ → List ℕ
-words_text [] = []
-words_text (w ∷ ws) = (codes " " ++ eight_digits w) ++ words_text ws
+words_text ws = flat_map (λ w. codes " " ++ eight_digits w) ws
 
-abbrev pub gated_text : Result Gated Refusal → List ℕ
-gated_text (Ok g) = cond g.stored (codes "stored") (codes "not stored") ++ (codes ", " ++ (decimal g.kept ++ codes " kept"))
+abbrev pub gated_text : Result (Option ℕ) Refusal → List ℕ
+gated_text (Ok (Some n)) = codes "stored, " ++ (decimal n ++ codes " kept")
+gated_text (Ok None) = codes "not stored, 0 kept"
 gated_text (Err e) = refused_text e
 
 abbrev pub done_text : Result (Unit {0}) Refusal → List ℕ
@@ -31,20 +31,22 @@ abbrev pub count_text : Result ℕ Refusal → List ℕ
 count_text (Ok n) = decimal n
 count_text (Err e) = refused_text e
 
--- the first words of the block, as many as are counted
 abbrev pub drawn_of : Drawn → List ℕ
-drawn_of d = take d.count d.block
+drawn_of d = d.words.items
 
-abbrev pub drawn_text : Result Drawn Refusal → List ℕ
-drawn_text (Ok d) = decimal (length (drawn_of d)) ++ (codes " words:" ++ words_text (drawn_of d))
-drawn_text (Err e) = refused_text e
+abbrev pub drawn_text : Drawn → List ℕ
+drawn_text d = decimal (length (drawn_of d)) ++ (codes " words:" ++ words_text (drawn_of d))
+
+abbrev pub draw_text : Result Drawn Refusal → List ℕ
+draw_text (Ok d) = drawn_text d
+draw_text (Err e) = refused_text e
 
 abbrev pub answer_text : Answer → List ℕ
 answer_text (Gate r) = codes "gate: " ++ gated_text r
 answer_text (Write offset r) = codes "write " ++ (four_digits offset ++ (codes ": " ++ done_text r))
 answer_text (Read offset r) = codes "read " ++ (four_digits offset ++ (codes ": " ++ value_text r))
 answer_text (Waiting r) = codes "waiting: " ++ count_text r
-answer_text (Draw r) = codes "draw: " ++ drawn_text r
+answer_text (Draw r) = codes "draw: " ++ draw_text r
 
 abbrev pub told_text : Result Answer Mistake → List ℕ
 told_text (Ok a) = answer_text a

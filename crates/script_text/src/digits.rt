@@ -1,7 +1,7 @@
 //! Hexadecimal numbers of a fixed length.
 
 ghost use Rattle.std.specs.Prelude.{◌≡◌, ◌<◌, Some};
-ghost use Rattle.script_text.specs.Digits.{digit, two_digits, four_digits, eight_digits};
+ghost use Rattle.script_text.specs.Digits.{digit, two_digits, four_digits, eight_digits, hex_text};
 
 use std::fmt;
 
@@ -30,34 +30,34 @@ impl fmt::Display for TwoDigits {
     }
 }
 
-/// An offset or a value: 0x and four digits.
+/// The bytes of a number, the high byte first: 0x and two digits for each. (`{:04X}` has no output in the library.)
 #[derive(Clone, Copy)]
-pub(crate) struct FourDigits(pub(crate) u16);
+pub(crate) struct Hex<const N: usize>([u8; N]);
 
-impl fmt::Display for FourDigits {
-    ghost output = { λ x. Some (four_digits x.0) };
+impl From<u16> for Hex<2> {
+    ghost from_gives = { λ n x. hex_text x.0 ≡ four_digits n };
 
-    fn fmt<W: fmt::Write>(&self, f: &mut fmt::Formatter<W>) -> fmt::Result {
-        let [high, low] = self.0.to_be_bytes();
-        let high = TwoDigits(high);
-        let low = TwoDigits(low);
-        write!(f, "0x{high}{low}")
+    fn from(number: u16) -> Self {
+        Hex(number.to_be_bytes())
     }
 }
 
-/// A word: 0x and eight digits.
-#[derive(Clone, Copy)]
-pub(crate) struct EightDigits(pub(crate) u32);
+impl From<u32> for Hex<4> {
+    ghost from_gives = { λ n x. hex_text x.0 ≡ eight_digits n };
 
-impl fmt::Display for EightDigits {
-    ghost output = { λ x. Some (eight_digits x.0) };
+    fn from(number: u32) -> Self {
+        Hex(number.to_be_bytes())
+    }
+}
+
+impl<const N: usize> fmt::Display for Hex<N> {
+    ghost output = { λ x. Some (hex_text x.0) };
 
     fn fmt<W: fmt::Write>(&self, f: &mut fmt::Formatter<W>) -> fmt::Result {
-        let [a, b, c, d] = self.0.to_be_bytes();
-        let a = TwoDigits(a);
-        let b = TwoDigits(b);
-        let c = TwoDigits(c);
-        let d = TwoDigits(d);
-        write!(f, "0x{a}{b}{c}{d}")
+        f.write_str("0x")?;
+        for byte in &self.0 {
+            f.write(TwoDigits(*byte))?;
+        }
+        Ok(())
     }
 }

@@ -1,24 +1,21 @@
 //! The line that tells what a line of a script came to.
 
 ghost use Rattle.std.specs.Prelude.{◌≡◌, Some};
-ghost use Rattle.std.specs.Fmt.{WritesOnOk};
-ghost use Rattle.script_text.specs.Replies.{drawn_of, words_text, gated_text, done_text, value_text, count_text, drawn_text, answer_text, told_text, reply_text};
+ghost use Rattle.script_text.specs.Replies.{drawn_of, drawn_text, answer_text, reply_text};
 
-use crate::digits::{EightDigits, FourDigits};
-use answers::gated::Gated;
+use crate::digits::Hex;
 use answers::refusal::Refusal;
-use reasons::{Reason, Refused};
+use arrayvec::ArrayVec;
 use script::mistake::Mistake;
 use std::fmt;
 
 /// The most words that a block has.
 pub const MOST_WORDS: usize = 64;
 
-/// A block, of which the first words were drawn.
-#[derive(Clone, Copy)]
+/// The words that were drawn.
+#[derive(Clone, Drop)]
 pub struct Drawn {
-    pub block: [u32; MOST_WORDS],
-    pub count: usize,
+    pub words: ArrayVec<u32, MOST_WORDS>,
 }
 
 impl Drawn {
@@ -26,15 +23,29 @@ impl Drawn {
     pub fn as_slice(&self) -> &[u32]
         ensures { result.now ≡ drawn_of self.now }
     {
-        let count = self.count.min(MOST_WORDS);
-        &self.block[0..count]
+        self.words.as_slice()
+    }
+}
+
+impl fmt::Display for Drawn {
+    ghost output = { λ x. Some (drawn_text x) };
+
+    fn fmt<W: fmt::Write>(&self, f: &mut fmt::Formatter<W>) -> fmt::Result {
+        let words = self.as_slice();
+        let count = words.len();
+        write!(f, "{count} words:")?;
+        for word in words {
+            write!(f, " {}", Hex::<4>::from(*word))?;
+        }
+        Ok(())
     }
 }
 
 /// What a board answers to a call.
-#[derive(Clone, Copy)]
+#[derive(Clone, Drop)]
 pub enum Answer {
-    Gate(Result<Gated, Refusal>),
+    /// How many readings the stored event keeps, none if no event was stored.
+    Gate(Result<Option<u8>, Refusal>),
     Write {
         offset: u16,
         result: Result<(), Refusal>,
@@ -48,156 +59,38 @@ pub enum Answer {
 }
 
 /// What became of a line, by its number.
-#[derive(Clone, Copy)]
+#[derive(Clone, Drop)]
 pub struct Reply {
     pub line: u64,
     pub told: Result<Answer, Mistake>,
-}
-
-fn write_words<W: fmt::Write>(words: &[u32], f: &mut fmt::Formatter<W>) -> fmt::Result
-    ensures { WritesOnOk W.write_str_gives f.old result (words_text words.now) f.new }
-{
-    for word in words {
-        let digits = EightDigits(*word);
-        write!(f, " {digits}")?;
-    }
-    Ok(())
-}
-
-#[derive(Clone, Copy)]
-struct Words<'a>(&'a [u32]);
-
-impl fmt::Display for Words<'_> {
-    ghost output = { λ x. Some (words_text x.0.now) };
-
-    fn fmt<W: fmt::Write>(&self, f: &mut fmt::Formatter<W>) -> fmt::Result {
-        write_words(self.0, f)
-    }
-}
-
-#[derive(Clone, Copy)]
-struct GateResult(Result<Gated, Refusal>);
-
-impl fmt::Display for GateResult {
-    ghost output = { λ x. Some (gated_text x.0) };
-
-    fn fmt<W: fmt::Write>(&self, f: &mut fmt::Formatter<W>) -> fmt::Result {
-        match self.0 {
-            Ok(gated) => {
-                let stored = if gated.stored { "stored" } else { "not stored" };
-                let kept = gated.kept;
-                write!(f, "{stored}, {kept} kept")
-            }
-            Err(refusal) => f.write(Refused(refusal)),
-        }
-    }
-}
-
-#[derive(Clone, Copy)]
-struct WriteResult(Result<(), Refusal>);
-
-impl fmt::Display for WriteResult {
-    ghost output = { λ x. Some (done_text x.0) };
-
-    fn fmt<W: fmt::Write>(&self, f: &mut fmt::Formatter<W>) -> fmt::Result {
-        match self.0 {
-            Ok(()) => f.write_str("done"),
-            Err(refusal) => f.write(Refused(refusal)),
-        }
-    }
-}
-
-#[derive(Clone, Copy)]
-struct ReadResult(Result<u16, Refusal>);
-
-impl fmt::Display for ReadResult {
-    ghost output = { λ x. Some (value_text x.0) };
-
-    fn fmt<W: fmt::Write>(&self, f: &mut fmt::Formatter<W>) -> fmt::Result {
-        match self.0 {
-            Ok(value) => f.write(FourDigits(value)),
-            Err(refusal) => f.write(Refused(refusal)),
-        }
-    }
-}
-
-#[derive(Clone, Copy)]
-struct WaitingResult(Result<usize, Refusal>);
-
-impl fmt::Display for WaitingResult {
-    ghost output = { λ x. Some (count_text x.0) };
-
-    fn fmt<W: fmt::Write>(&self, f: &mut fmt::Formatter<W>) -> fmt::Result {
-        match self.0 {
-            Ok(count) => f.write(count),
-            Err(refusal) => f.write(Refused(refusal)),
-        }
-    }
-}
-
-#[derive(Clone, Copy)]
-struct DrawResult(Result<Drawn, Refusal>);
-
-impl fmt::Display for DrawResult {
-    ghost output = { λ x. Some (drawn_text x.0) };
-
-    fn fmt<W: fmt::Write>(&self, f: &mut fmt::Formatter<W>) -> fmt::Result {
-        match self.0 {
-            Ok(drawn) => {
-                let words = drawn.as_slice();
-                let count = words.len();
-                let words = Words(words);
-                write!(f, "{count} words:{words}")
-            }
-            Err(refusal) => f.write(Refused(refusal)),
-        }
-    }
 }
 
 impl fmt::Display for Answer {
     ghost output = { λ x. Some (answer_text x) };
 
     fn fmt<W: fmt::Write>(&self, f: &mut fmt::Formatter<W>) -> fmt::Result {
-        match *self {
-            Answer::Gate(result) => {
-                let result = GateResult(result);
-                write!(f, "gate: {result}")
-            }
+        match self {
+            Answer::Gate(Ok(Some(kept))) => write!(f, "gate: stored, {kept} kept"),
+            Answer::Gate(Ok(None)) => f.write_str("gate: not stored, 0 kept"),
+            Answer::Gate(Err(refusal)) => write!(f, "gate: {refusal}"),
             Answer::Write { offset, result } => {
-                let offset = FourDigits(offset);
-                let result = WriteResult(result);
-                write!(f, "write {offset}: {result}")
+                let offset = Hex::<2>::from(*offset);
+                match result {
+                    Ok(()) => write!(f, "write {offset}: done"),
+                    Err(refusal) => write!(f, "write {offset}: {refusal}"),
+                }
             }
             Answer::Read { offset, result } => {
-                let offset = FourDigits(offset);
-                let result = ReadResult(result);
-                write!(f, "read {offset}: {result}")
+                let offset = Hex::<2>::from(*offset);
+                match result {
+                    Ok(value) => write!(f, "read {offset}: {}", Hex::<2>::from(*value)),
+                    Err(refusal) => write!(f, "read {offset}: {refusal}"),
+                }
             }
-            Answer::Waiting(result) => {
-                let result = WaitingResult(result);
-                write!(f, "waiting: {result}")
-            }
-            Answer::Draw(result) => {
-                let result = DrawResult(result);
-                write!(f, "draw: {result}")
-            }
-        }
-    }
-}
-
-#[derive(Clone, Copy)]
-struct Told(Result<Answer, Mistake>);
-
-impl fmt::Display for Told {
-    ghost output = { λ x. Some (told_text x.0) };
-
-    fn fmt<W: fmt::Write>(&self, f: &mut fmt::Formatter<W>) -> fmt::Result {
-        match self.0 {
-            Ok(answer) => f.write(answer),
-            Err(mistake) => {
-                let reason = Reason(mistake);
-                write!(f, "not understood: {reason}")
-            }
+            Answer::Waiting(Ok(count)) => write!(f, "waiting: {count}"),
+            Answer::Waiting(Err(refusal)) => write!(f, "waiting: {refusal}"),
+            Answer::Draw(Ok(drawn)) => write!(f, "draw: {drawn}"),
+            Answer::Draw(Err(refusal)) => write!(f, "draw: {refusal}"),
         }
     }
 }
@@ -207,7 +100,9 @@ impl fmt::Display for Reply {
 
     fn fmt<W: fmt::Write>(&self, f: &mut fmt::Formatter<W>) -> fmt::Result {
         let line = self.line;
-        let told = Told(self.told);
-        write!(f, "{line}: {told}")
+        match &self.told {
+            Ok(answer) => write!(f, "{line}: {answer}"),
+            Err(mistake) => write!(f, "{line}: not understood: {mistake}"),
+        }
     }
 }

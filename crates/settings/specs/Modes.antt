@@ -1,9 +1,12 @@
 -- The mode word: its bits, and which of them a board carries.
-use Rattle.std.specs.Prelude.{◌≡◌, ℕ, zero, suc, ◌-◌, Bool, true, false, cond, not, ◌&&◌, ◌||◌, List, [], ◌∷◌, ◌==◌, bit_and, bit_or}
+use Rattle.std.specs.Prelude.{◌≡◌, ℕ, zero, suc, ◌-◌, Bool, true, if◌then◌else◌, not, ◌&&◌, ◌||◌, List, [], ◌∷◌, ◌==◌, bit_and, bit_or}
+use Rattle.std.specs.List.{list_any}
+use Rattle.front_ends.specs.declared.step.Step.{Step}
+use Rattle.front_ends.specs.declared.step.Step.TheVariants.{Fine, Coarse}
 use Rattle.bits.specs.Bits.{has}
 use Rattle.settings.specs.declared.mode.Mode.{Mode}
 use Rattle.settings.specs.declared.mode.ModeBit.{ModeBit}
-use Rattle.settings.specs.declared.mode.ModeBit.TheVariants.{Offline, ClearData, OverRange, LowThreshold, SlideEnable, Step, AutoIncr, Empty, AllTrg}
+use Rattle.settings.specs.declared.mode.ModeBit.TheVariants.{Offline, ClearData, OverRange, LowThreshold, SlideEnable, AutoIncr, Empty, AllTrg}
 
 -- the place of a bit in the mode word
 abbrev pub place : ModeBit → ℕ
@@ -12,7 +15,7 @@ place ClearData = 2
 place OverRange = 3
 place LowThreshold = 4
 place SlideEnable = 7
-place Step = 8
+place ModeBit.Step = 8
 place AutoIncr = 11
 place Empty = 12
 place AllTrg = 14
@@ -20,15 +23,17 @@ place AllTrg = 14
 abbrev pub stands : ModeBit → Mode → Bool
 stands b m = has m.word (place b)
 
+abbrev pub step_of : Mode → Step
+step_of m = if stands ModeBit.Step m then Fine else Coarse
+
 -- the bits that can be set and cleared; STEP on boards that have it
 abbrev pub carried : Bool → List ModeBit
 carried step =
-    Offline ∷ ClearData ∷ OverRange ∷ LowThreshold ∷ SlideEnable ∷ Empty ∷ AllTrg ∷ cond step (Step ∷ []) []
+    Offline ∷ ClearData ∷ OverRange ∷ LowThreshold ∷ SlideEnable ∷ Empty ∷ AllTrg ∷ (if step then ModeBit.Step ∷ [] else [])
 
 -- bit k is one of these
 abbrev pub among : List ModeBit → ℕ → Bool
-among [] k = false
-among (b ∷ bs) k = place b == k || among bs k
+among bs k = list_any (λ b. place b == k) bs
 
 -- of the lowest n bits of the value, each that is 1 is one of these
 abbrev pub names_only_below : ℕ → List ModeBit → ℕ → Bool

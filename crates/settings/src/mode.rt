@@ -1,22 +1,23 @@
 //! The mode word.
 
 ghost use Rattle.std.specs.Prelude.{◌≡◌};
-ghost use Rattle.settings.specs.Modes.{stands, names_only, carried, with_set, with_cleared, SetBits, ClearedBits};
+ghost use Rattle.settings.specs.Modes.{stands, step_of, names_only, carried, with_set, with_cleared, SetBits, ClearedBits};
 
 use bits::bit;
+use front_ends::step::Step;
 
-/// The bits of the mode word that have a meaning.
+/// The bits of the mode word that have a meaning, each with its place there.
 #[derive(Clone, Copy)]
 pub enum ModeBit {
-    Offline,
-    ClearData,
-    OverRange,
-    LowThreshold,
-    SlideEnable,
-    Step,
-    AutoIncr,
-    Empty,
-    AllTrg,
+    Offline = 1,
+    ClearData = 2,
+    OverRange = 3,
+    LowThreshold = 4,
+    SlideEnable = 7,
+    Step = 8,
+    AutoIncr = 11,
+    Empty = 12,
+    AllTrg = 14,
 }
 
 /// How a board behaves, one bit for each choice.
@@ -25,29 +26,17 @@ pub struct Mode {
     pub word: u16,
 }
 
-/// The bits that every board carries: OFFLINE, CLEAR DATA, OVER RANGE, LOW THRESHOLD, SLIDE ENABLE, EMPTY, ALL TRG.
-const CARRIED: u16 = 1 << 1 | 1 << 2 | 1 << 3 | 1 << 4 | 1 << 7 | 1 << 12 | 1 << 14;
+/// The bits that every board carries.
+const CARRIED: u16 = 1 << ModeBit::Offline as u16
+    | 1 << ModeBit::ClearData as u16
+    | 1 << ModeBit::OverRange as u16
+    | 1 << ModeBit::LowThreshold as u16
+    | 1 << ModeBit::SlideEnable as u16
+    | 1 << ModeBit::Empty as u16
+    | 1 << ModeBit::AllTrg as u16;
 
-const CARRIED_WITH_STEP: u16 = CARRIED | 1 << 8;
-
-impl ModeBit {
-    /// The bit's place in the mode word.
-    fn place(self) -> u32
-        ensures { result ≡ Rattle.settings.specs.Modes.place self }
-    {
-        match self {
-            ModeBit::Offline => 1,
-            ModeBit::ClearData => 2,
-            ModeBit::OverRange => 3,
-            ModeBit::LowThreshold => 4,
-            ModeBit::SlideEnable => 7,
-            ModeBit::Step => 8,
-            ModeBit::AutoIncr => 11,
-            ModeBit::Empty => 12,
-            ModeBit::AllTrg => 14,
-        }
-    }
-}
+/// The same, and STEP.
+const CARRIED_WITH_STEP: u16 = CARRIED | 1 << ModeBit::Step as u16;
 
 impl Mode {
     /// AUTO INCR, SLIDE ENABLE and ALL TRG stand at power-on.
@@ -57,10 +46,22 @@ impl Mode {
     pub fn stands(self, choice: ModeBit) -> bool
         ensures { result ≡ stands choice self }
     {
-        bit(u32::from(self.word), choice.place())
+        bit(u32::from(self.word), choice as u32)
+    }
+
+    /// The step in which thresholds count.
+    pub(crate) fn step(self) -> Step
+        ensures { result ≡ step_of self }
+    {
+        if self.stands(ModeBit::Step) {
+            Step::Fine
+        } else {
+            Step::Coarse
+        }
     }
 
     /// The mode with the bits 1 that are 1 in the value.
+    #[tactic(auto, using(bits::proofs::BitLaws::has_or))]
     pub fn with_set(self, value: u16) -> Mode
         ensures is { result ≡ with_set self value }
         ensures bits { SetBits self value result }
@@ -71,6 +72,7 @@ impl Mode {
     }
 
     /// The mode with the bits 0 that are 1 in the value.
+    #[tactic(auto, using(crate::proofs::ModeLaws::cleared_bit))]
     pub fn with_cleared(self, value: u16) -> Mode
         ensures is { result ≡ with_cleared self value }
         ensures bits { ClearedBits self value result }
@@ -85,9 +87,6 @@ impl Mode {
 pub fn carries(step: bool, value: u16) -> bool
     ensures { result ≡ names_only (carried step) value }
 {
-    if step {
-        value | CARRIED_WITH_STEP == CARRIED_WITH_STEP
-    } else {
-        value | CARRIED == CARRIED
-    }
+    let carried = if step { CARRIED_WITH_STEP } else { CARRIED };
+    value | carried == carried
 }

@@ -1,7 +1,10 @@
 //! The threshold of one slot.
 
-ghost use Rattle.std.specs.Prelude.{◌≡◌};
+ghost use Rattle.std.specs.Prelude.{◌≡◌, ok_or};
+ghost use Rattle.answers.specs.declared.refusal.Refusal.TheVariants.{Value};
 ghost use Rattle.settings.specs.Thresholds.{threshold_of, value_of, ThresholdAgain};
+
+use answers::refusal::Refusal;
 
 /// The level below which a count is under threshold, in units that the front end and the mode give, and KILL,
 /// which keeps nothing of the slot.
@@ -22,25 +25,30 @@ impl Threshold {
         level: 0,
         kill: false,
     };
+}
 
-    /// The threshold that a register value means, bits 7 to 0 the level and bit 8 KILL, or none for a value over 511.
-    pub fn of(value: u16) -> Option<Threshold>
-        ensures is { result ≡ threshold_of value }
-        ensures again { ThresholdAgain value result }
-    {
+/// The threshold that a register value means, bits 7 to 0 the level and bit 8 KILL; a value over 511 is refused.
+impl TryFrom<u16> for Threshold {
+    type Error = Refusal;
+
+    ghost try_from_gives = { λ v r. (r ≡ ok_or (threshold_of v) Value) × ThresholdAgain v r };
+
+    fn try_from(value: u16) -> Result<Threshold, Refusal> {
         if value > MOST {
-            return None;
+            return Err(Refusal::Value);
         }
-        Some(Threshold {
+        Ok(Threshold {
             level: (value % KILL) as u8,
             kill: value >= KILL,
         })
     }
+}
 
-    /// The value that the threshold's register shows.
-    pub fn value(self) -> u16
-        ensures { result ≡ value_of self }
-    {
-        u16::from(self.level) + KILL * u16::from(self.kill)
+/// The value that the threshold's register shows.
+impl From<Threshold> for u16 {
+    ghost from_gives = { λ t v. v ≡ value_of t };
+
+    fn from(threshold: Threshold) -> u16 {
+        u16::from(threshold.level) + KILL * u16::from(threshold.kill)
     }
 }

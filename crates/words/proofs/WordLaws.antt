@@ -1,5 +1,5 @@
 -- A word and its parts, there and back.
-use Rattle.std.proofs.Common.{◌≡◌, ℕ, ◌^◌, ◌<◌, true, Ok, Err, rules}
+use Rattle.std.proofs.Common.{◌≡◌, ℕ, ◌^◌, ◌<◌, Ok, Err, rules}
 use Rattle.words.specs.declared.fault.Due.TheVariants as due
 use Rattle.words.specs.declared.fault.Spot.{Spot}
 use Rattle.words.specs.declared.fault.WordFault.{WordFault}
@@ -10,7 +10,7 @@ use Rattle.words.specs.declared.word.First.{First}
 use Rattle.words.specs.declared.word.First.TheVariants as first
 use Rattle.words.specs.declared.word.Reading.{Reading}
 use Rattle.words.specs.Events.{header_word, datum_word, end_word}
-use Rattle.words.specs.Words.{bits, kind_of, geo_of, reading_of, read_first, read_datum, read_end, FirstIs, HeaderClean, DatumClean, Told, datum_fits, end_fits}
+use Rattle.words.specs.Words.{bits, kind_of, geo_of, reading_of, read_first, read_datum, read_end, FirstIs, DatumIs, EndIs, HeaderClean, DatumClean, Told}
 
 -- a header's word is read as the header
 pub header_again : (g k n : ℕ) (s : Spot) → g < 32 → k < 256 → n < 64
@@ -29,10 +29,10 @@ end_again g n s p q = search rules
 pub first_only : (w : ℕ) (s : Spot) (x : First) → w < 2 ^ 32 → read_first w s ≡ Ok x → FirstIs w x
 first_only w s x h e = search rules
 
-pub datum_only : (w : ℕ) (s : Spot) (d : Datum) → w < 2 ^ 32 → read_datum w s ≡ Ok d → (datum_fits d ≡ true) × (w ≡ datum_word d.geo d.reading)
+pub datum_only : (w : ℕ) (s : Spot) (d : Datum) → w < 2 ^ 32 → read_datum w s ≡ Ok d → DatumIs w d
 datum_only w s d h e = search rules
 
-pub end_only : (w : ℕ) (s : Spot) (d : End) → w < 2 ^ 32 → read_end w s ≡ Ok d → (end_fits d ≡ true) × (w ≡ end_word d.geo d.number)
+pub end_only : (w : ℕ) (s : Spot) (d : End) → w < 2 ^ 32 → read_end w s ≡ Ok d → EndIs w d
 end_only w s d h e = search rules
 
 -- a datum's word holds the reading

@@ -8,12 +8,12 @@
 //! | filler | any    | 110    | any ||
 
 ghost use Rattle.std.specs.Prelude.{◌≡◌, ◌<◌};
-ghost use Rattle.words.specs.Words.{bits, word_bytes, make_header, make_datum, make_end, reading_of, read_first, read_datum, read_end, HeaderAgain, DatumAgain, EndAgain, FirstOnly, DatumOnly, EndOnly};
+ghost use Rattle.words.specs.Words.{bits, word_bytes, make_header, make_datum, make_end, reading_of, word_kind, read_first, read_datum, read_end, Again, ReadsOnly, FirstIs, DatumIs, EndIs};
 
 use crate::fault::{Due, Spot, WordCause, WordFault};
 
 /// The word that begins an event.
-#[derive(Clone, Copy)]
+#[derive(Clone, Copy, PartialEq, Eq, Debug)]
 pub struct Header {
     pub geo: u8,
     pub crate_number: u8,
@@ -21,7 +21,7 @@ pub struct Header {
 }
 
 /// What one converter gave: where it was read, how it was judged, and its count.
-#[derive(Clone, Copy)]
+#[derive(Clone, Copy, PartialEq, Eq, Debug)]
 pub struct Reading {
     pub tag: u8,
     pub under: bool,
@@ -30,33 +30,49 @@ pub struct Reading {
 }
 
 /// The word of one reading.
-#[derive(Clone, Copy)]
+#[derive(Clone, Copy, PartialEq, Eq, Debug)]
 pub struct Datum {
     pub geo: u8,
     pub reading: Reading,
 }
 
 /// The word that ends an event.
-#[derive(Clone, Copy)]
+#[derive(Clone, Copy, PartialEq, Eq, Debug)]
 pub struct End {
     pub geo: u8,
     pub number: u32,
 }
 
 /// What may stand where an event or a filler is due.
-#[derive(Clone, Copy)]
+#[derive(Clone, Copy, PartialEq, Eq, Debug)]
 pub enum First {
     Header(Header),
     Filler,
 }
 
-const DATUM: u32 = 0;
+/// What bits 26 to 24 tell of a word.
+#[derive(Clone, Copy)]
+enum WordKind {
+    Datum = 0,
+    Header = 2,
+    End = 4,
+    Filler = 6,
+}
 
-const HEADER: u32 = 2;
-
-const END: u32 = 4;
-
-const FILLER: u32 = 6;
+impl WordKind {
+    /// The kind of a word, or none where its bits are those of no kind.
+    fn of(word: u32) -> Option<WordKind>
+        ensures { result ≡ word_kind word }
+    {
+        match field(word, 24, 3) {
+            0 => Some(WordKind::Datum),
+            2 => Some(WordKind::Header),
+            4 => Some(WordKind::End),
+            6 => Some(WordKind::Filler),
+            _ => None,
+        }
+    }
+}
 
 /// The `width` bits of a word from bit `low` up.
 fn field(word: u32, low: u32, width: u32) -> u32
@@ -74,16 +90,18 @@ pub fn bytes_of(word: u32) -> [u8; 4]
     word.to_be_bytes()
 }
 
+// The three makers of words stay methods that answer an `Option`: `u32::try_from(header)` would need an error type that
+// says no more than none does, and would not say that it is a word that is made.
 impl Header {
     /// The header's word, or none where a part does not fit its bits.
     pub fn word(&self) -> Option<u32>
         ensures is { result ≡ make_header self.now }
-        ensures again { HeaderAgain self.now result }
+        ensures again { Again read_first (First.Header self.now) result }
     {
         if self.geo < 32 && self.readings < 64 {
             Some(
                 (u32::from(self.geo) << 27)
-                    + (HEADER << 24)
+                    + ((WordKind::Header as u32) << 24)
                     + (u32::from(self.crate_number) << 16)
                     + (u32::from(self.readings) << 8),
             )
@@ -93,11 +111,11 @@ impl Header {
     }
 }
 
-impl Reading {
-    /// The reading that the bits of a datum hold.
-    pub fn of(word: u32) -> Reading
-        ensures { result ≡ reading_of word }
-    {
+/// The reading that the bits of a datum hold.
+impl From<u32> for Reading {
+    ghost from_gives = { λ w r. r ≡ reading_of w };
+
+    fn from(word: u32) -> Reading {
         Reading {
             tag: field(word, 16, 5) as u8,
             under: field(word, 13, 1) == 1,
@@ -107,11 +125,12 @@ impl Reading {
     }
 }
 
+// Each fault is spelt out: made by a function of its own it costs the reader two more instructions a word.
 impl Datum {
     /// The datum's word, or none where a part does not fit its bits.
     pub fn word(&self) -> Option<u32>
         ensures is { result ≡ make_datum self.now }
-        ensures again { DatumAgain self.now result }
+        ensures again { Again read_datum self.now result }
     {
         let reading = self.reading;
         if self.geo < 32 && reading.tag < 32 && reading.count < 4096 {
@@ -130,20 +149,25 @@ impl Datum {
     /// Takes a word apart where a datum is due.
     pub fn read(word: u32, spot: Spot) -> Result<Datum, WordFault>
         ensures is { result ≡ read_datum word spot }
-        ensures only { DatumOnly word spot result }
+        ensures only { ReadsOnly DatumIs Due.Datum word spot result }
     {
-        let due = Due::Datum;
-        if field(word, 24, 3) != DATUM {
-            let cause = WordCause::Kind;
-            return Err(WordFault { cause, due, spot });
-        }
+        let Some(WordKind::Datum) = WordKind::of(word) else {
+            return Err(WordFault {
+                cause: WordCause::Kind,
+                due: Due::Datum,
+                spot,
+            });
+        };
         if field(word, 21, 3) != 0 || field(word, 14, 2) != 0 {
-            let cause = WordCause::Bit;
-            return Err(WordFault { cause, due, spot });
+            return Err(WordFault {
+                cause: WordCause::Bit,
+                due: Due::Datum,
+                spot,
+            });
         }
         Ok(Datum {
             geo: field(word, 27, 5) as u8,
-            reading: Reading::of(word),
+            reading: Reading::from(word),
         })
     }
 }
@@ -152,10 +176,10 @@ impl End {
     /// The word that ends an event, or none where a part does not fit its bits.
     pub fn word(&self) -> Option<u32>
         ensures is { result ≡ make_end self.now }
-        ensures again { EndAgain self.now result }
+        ensures again { Again read_end self.now result }
     {
         if self.geo < 32 && self.number < 1 << 24 {
-            Some((u32::from(self.geo) << 27) + (END << 24) + self.number)
+            Some((u32::from(self.geo) << 27) + ((WordKind::End as u32) << 24) + self.number)
         } else {
             None
         }
@@ -164,13 +188,15 @@ impl End {
     /// Takes a word apart where an end is due.
     pub fn read(word: u32, spot: Spot) -> Result<End, WordFault>
         ensures is { result ≡ read_end word spot }
-        ensures only { EndOnly word spot result }
+        ensures only { ReadsOnly EndIs Due.End word spot result }
     {
-        if field(word, 24, 3) != END {
-            let cause = WordCause::Kind;
-            let due = Due::End;
-            return Err(WordFault { cause, due, spot });
-        }
+        let Some(WordKind::End) = WordKind::of(word) else {
+            return Err(WordFault {
+                cause: WordCause::Kind,
+                due: Due::End,
+                spot,
+            });
+        };
         Ok(End {
             geo: field(word, 27, 5) as u8,
             number: field(word, 0, 24),
@@ -182,25 +208,27 @@ impl First {
     /// Takes a word apart where a header or a filler is due. A filler's other bits are not looked at.
     pub fn read(word: u32, spot: Spot) -> Result<First, WordFault>
         ensures is { result ≡ read_first word spot }
-        ensures only { FirstOnly word spot result }
+        ensures only { ReadsOnly FirstIs Due.First word spot result }
     {
-        let due = Due::First;
-        let kind = field(word, 24, 3);
-        if kind == FILLER {
-            return Ok(First::Filler);
+        match WordKind::of(word) {
+            Some(WordKind::Filler) => Ok(First::Filler),
+            Some(WordKind::Header) if field(word, 14, 2) == 0 && field(word, 0, 8) == 0 => {
+                Ok(First::Header(Header {
+                    geo: field(word, 27, 5) as u8,
+                    crate_number: field(word, 16, 8) as u8,
+                    readings: field(word, 8, 6) as u8,
+                }))
+            }
+            Some(WordKind::Header) => Err(WordFault {
+                cause: WordCause::Bit,
+                due: Due::First,
+                spot,
+            }),
+            _ => Err(WordFault {
+                cause: WordCause::Kind,
+                due: Due::First,
+                spot,
+            }),
         }
-        if kind != HEADER {
-            let cause = WordCause::Kind;
-            return Err(WordFault { cause, due, spot });
-        }
-        if field(word, 14, 2) != 0 || field(word, 0, 8) != 0 {
-            let cause = WordCause::Bit;
-            return Err(WordFault { cause, due, spot });
-        }
-        Ok(First::Header(Header {
-            geo: field(word, 27, 5) as u8,
-            crate_number: field(word, 16, 8) as u8,
-            readings: field(word, 8, 6) as u8,
-        }))
     }
 }

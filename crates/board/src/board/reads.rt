@@ -22,7 +22,7 @@ const LOW_BITS: u32 = 16;
 
 impl<F: FrontEnd> Board<F> {
     fn status(&self) -> u16
-        ensures { result ≡ status (board_of F.FrontEnd.meaning self.now) }
+        ensures { result ≡ status (board_of self.now) }
     {
         let waiting = self.buffer.waiting();
         let busy = waiting >= FULL || self.settings.mode.stands(ModeBit::ClearData);
@@ -30,26 +30,27 @@ impl<F: FrontEnd> Board<F> {
     }
 
     fn read_threshold(&self, tag: u8) -> Result<u16, Refusal>
-        ensures { result ≡ read_threshold (board_of F.FrontEnd.meaning self.now) (slot_of (F.FrontEnd.meaning self.now.front) tag) }
+        ensures { result ≡ read_threshold (board_of self.now) (slot_of (board_of self.now).front tag) }
     {
-        match self.front.slot(tag) {
-            Some(slot) => Ok(self.settings.thresholds[slot as usize].value()),
-            None => Err(Refusal::NoRegister),
-        }
+        let slot = self.front.slot(tag).ok_or(Refusal::NoRegister)?;
+        Ok(u16::from(self.settings.thresholds[slot as usize]))
     }
 
     pub(crate) fn read_register(&self, offset: u16) -> Result<u16, Refusal>
-        ensures { result ≡ read_answer offset (board_of F.FrontEnd.meaning self.now) }
+        ensures { result ≡ read_answer offset (board_of self.now) }
     {
-        match Register::at(offset) {
-            Some(Register::Geo) => Ok(u16::from(self.settings.geo)),
-            Some(Register::Status) => Ok(self.status()),
-            Some(Register::CounterLow) => Ok((self.counter % (1 << LOW_BITS)) as u16),
-            Some(Register::CounterHigh) => Ok((self.counter >> LOW_BITS) as u16),
-            Some(Register::Mode) => Ok(self.settings.mode.word),
-            Some(Register::Crate) => Ok(u16::from(self.settings.crate_number)),
-            Some(Register::Threshold { tag }) => self.read_threshold(tag),
-            _ => Err(Refusal::NoRegister),
+        match Register::at(offset).ok_or(Refusal::NoRegister)? {
+            Register::Geo => Ok(u16::from(self.settings.geo)),
+            Register::Status => Ok(self.status()),
+            Register::CounterLow => Ok((self.counter % (1 << LOW_BITS)) as u16),
+            Register::CounterHigh => Ok((self.counter >> LOW_BITS) as u16),
+            Register::Mode => Ok(self.settings.mode.word),
+            Register::Crate => Ok(u16::from(self.settings.crate_number)),
+            Register::Threshold { tag } => self.read_threshold(tag),
+            Register::SoftwareReset
+            | Register::Skip
+            | Register::ModeClear
+            | Register::CounterReset => Err(Refusal::NoRegister),
         }
     }
 }

@@ -1,6 +1,7 @@
 //! One board is a bank of one station.
 
-ghost use Rattle.std.specs.Prelude.{◌≡◌, [], ◌∷◌};
+ghost use Rattle.std.specs.Prelude.{◌≡◌, if◌then◌else◌, [], ◌∷◌, Ok, Err, nat_lt};
+ghost use Rattle.answers.specs.declared.refusal.Refusal.TheVariants.{NoStation};
 ghost use Rattle.bank.specs.Boards.{power_on};
 ghost use Rattle.buffer.specs.Buffers.{AtStart};
 ghost use Rattle.board.specs.Played.{board_of};
@@ -8,17 +9,27 @@ ghost use Rattle.buffer.proofs.Lawfulness.{events_lawful, events_few};
 ghost use Rattle.std.proofs.Common.{lit≤};
 
 use crate::board::Board;
-use answers::gated::Gated;
 use answers::refusal::Refusal;
 use bank::Bank;
 use buffer::buffer::Buffer;
 use front_ends::front_end::FrontEnd;
 use settings::settings::Settings;
 
+/// Refuses any station but the first, which is the only one.
+fn reach(station: usize) -> Result<(), Refusal>
+    ensures { result ≡ (if nat_lt station 1 then Ok tt else Err NoStation) }
+{
+    if station > 0 {
+        return Err(Refusal::NoStation);
+    }
+    Ok(())
+}
+
 impl<F: FrontEnd> Board<F> {
     /// A board of that front end, switched on.
+    #[tactic(auto, unfolding(bits::specs::Bits::has))]
     pub fn new(front: F) -> Board<F>
-        ensures is { board_of F.FrontEnd.meaning result ≡ power_on (F.FrontEnd.meaning front) }
+        ensures is { board_of result ≡ power_on (F.FrontEnd.meaning front) }
         ensures starts { AtStart result.buffer }
     {
         Board {
@@ -31,7 +42,7 @@ impl<F: FrontEnd> Board<F> {
 }
 
 impl<F: FrontEnd> Bank for Board<F> {
-    ghost boards = { λ b. board_of F.FrontEnd.meaning b ∷ [] };
+    ghost boards = { λ b. board_of b ∷ [] };
 
     ghost some = { λ _. lit≤ tt };
 
@@ -44,38 +55,33 @@ impl<F: FrontEnd> Bank for Board<F> {
         1
     }
 
-    fn gate(&mut self, station: usize, signal: u8, readings: &[u16]) -> Result<Gated, Refusal> {
-        if station > 0 {
-            return Err(Refusal::NoStation);
-        }
+    fn gate(
+        &mut self,
+        station: usize,
+        signal: u8,
+        readings: &[u16],
+    ) -> Result<Option<u8>, Refusal> {
+        reach(station)?;
         self.put_gate(signal, readings)
     }
 
     fn write(&mut self, station: usize, offset: u16, value: u16) -> Result<(), Refusal> {
-        if station > 0 {
-            return Err(Refusal::NoStation);
-        }
+        reach(station)?;
         self.write_register(offset, value)
     }
 
     fn read(&self, station: usize, offset: u16) -> Result<u16, Refusal> {
-        if station > 0 {
-            return Err(Refusal::NoStation);
-        }
+        reach(station)?;
         self.read_register(offset)
     }
 
     fn waiting(&self, station: usize) -> Result<usize, Refusal> {
-        if station > 0 {
-            return Err(Refusal::NoStation);
-        }
+        reach(station)?;
         Ok(self.buffer.waiting())
     }
 
     fn draw(&mut self, station: usize, block: &mut [u32]) -> Result<usize, Refusal> {
-        if station > 0 {
-            return Err(Refusal::NoStation);
-        }
+        reach(station)?;
         self.buffer.draw(&self.front, block)
     }
 }

@@ -7,5 +7,5 @@ use Rattle.script.proofs.parse.parse.Goals as goal
 pub returns : goal.returns
 returns c =
     let line = c.args.line.now in
-    let said : c.parse_said.result ≡ parsed line = search rules in
+    let said : c.parse_parts.result ≡ parsed line = search rules in
     record { is = said; block = parsed_short line _ said; plainly = plainly line _ said }

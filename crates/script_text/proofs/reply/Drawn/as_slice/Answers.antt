@@ -1,6 +1,0 @@
-use Rattle.std.proofs.Common.{rules}
-use Rattle.script.proofs.Storing.{take_min}
-use Rattle.script_text.proofs.reply.Drawn.as_slice.Goals as goal
-
-pub returns : goal.returns
-returns c = take_min c.args.self.now.count 64 c.min-count.result c.args.self.now.block (search rules) c.min-count.ensures
