@@ -59,17 +59,12 @@ impl Refusal {
             Refusal::NothingWaits => 26,
         }
     }
-}
 
-/// Why a call is turned away, without the number.
-#[derive(Clone, Copy)]
-struct Cause(Refusal);
-
-impl fmt::Display for Cause {
-    ghost output = { λ x. Some (cause_of x.0) };
-
-    fn fmt<W: fmt::Write>(&self, f: &mut fmt::Formatter<W>) -> fmt::Result {
-        f.write_str(match self.0 {
+    /// Why the call is turned away, without the number.
+    fn why(self) -> &'static str
+        ensures { result.now ≡ cause_of self }
+    {
+        match self {
             Refusal::NoStation => "no such station",
             Refusal::ReadingCount => "not one reading for each slot",
             Refusal::ReadingBits => "a reading exceeds 8191",
@@ -85,7 +80,7 @@ impl fmt::Display for Cause {
             Refusal::Full => "32 events wait",
             Refusal::FastClear => "fast clear",
             Refusal::NothingWaits => "no event waits",
-        })
+        }
     }
 }
 
@@ -94,7 +89,7 @@ impl fmt::Display for Refusal {
 
     fn fmt<W: fmt::Write>(&self, f: &mut fmt::Formatter<W>) -> fmt::Result {
         let number = self.number();
-        let cause = Cause(*self);
+        let cause = self.why();
         write!(f, "refused {number}: {cause}")
     }
 }

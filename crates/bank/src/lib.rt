@@ -15,6 +15,7 @@ use answers::refusal::Refusal;
 
 /// Every kind of bank means a list of boards. Each call does to the board of its station what the rules say, and
 /// nothing to another. Stations past the answered number are not reached.
+// What each call says is written out call by call: the law is one, and of each call another answer and change.
 pub trait Bank {
     ghost boards: { Self → List Board };
 
@@ -24,6 +25,7 @@ pub trait Bank {
 
     /// A gate brings a reading for each slot, in slot order, and a signal: 0 none, 1 veto, 2 fast clear. Answers how many
     /// readings the stored event keeps, or none where nothing is stored (and then nothing is kept).
+    // The signal is a number: a caller may put any, and 3 and more are refused.
     fn gate(&mut self, station: usize, signal: u8, readings: &[u16]) -> Result<Option<u8>, Refusal>
         ensures says { result ≡ asked (gate_answer signal readings.now) (Err NoStation) (boards self.old) station }
         ensures leaves { boards self.new ≡ changed (gated signal readings.now) (boards self.old) station };

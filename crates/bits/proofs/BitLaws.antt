@@ -2,7 +2,7 @@
 use Rattle.std.proofs.Common.{◌≡◌, ℕ, ◌/◌, ◌%◌, ◌^◌, ◌<◌, ◌≤◌, min, max, false, ◌&&◌, ◌||◌, eqb, ap, ◌∙◌, arith}
 use lib.Bits.{bit_or, bit_and}
 use Rattle.std.specs.Int.{bit_at}
-use Rattle.std.proofs.lemmas.Nat.Bits.{bit_at-zero, bit_at_or, bit_at_and, bit_at-lt, bit_at-pow_other, bit_at_above, same_from_bits_below}
+use Rattle.std.proofs.lemmas.Nat.Bits.{bit_at-zero, bit_at_or, bit_at_and, bit_at-lt, bit_at_above, same_from_bits_below}
 use Rattle.bits.specs.Bits.{has}
 
 either : (a b : ℕ) → a < 2 → b < 2 → eqb (max a b) 1 ≡ (eqb a 1 || eqb b 1)
@@ -34,7 +34,3 @@ has_past n w k l h = ap (λ m. eqb m 1) (bit_at_above n w k l h)
 pub same_bits : (w n m : ℕ) → n < 2 ^ w → m < 2 ^ w → ((k : ℕ) → k < w → has n k ≡ has m k) → n ≡ m
 unfolding has
 same_bits w n m p q same = same_from_bits_below w n m p q (λ k l. let e = same k l in grind (arith, bit_at-lt n k, bit_at-lt m k))
-
--- the number that is one bit has no other
-pub other_bit : (t u : ℕ) → (u ≡ t → ⊥) → 2 ^ t / 2 ^ u % 2 ≡ 0
-other_bit t u ne = bit_at-pow_other t u ne

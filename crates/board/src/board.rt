@@ -13,10 +13,8 @@ mod reads;
 mod station;
 mod writes;
 
-/// So many events wait at most.
-const FULL: usize = 32;
-
 /// A board of any front end: its settings, its event counter of 24 bits, and the events that wait.
+// No `Model`: its value would hold a front end's floors, and a function has no code.
 #[derive(Drop)]
 pub struct Board<F: FrontEnd> {
     front: F,

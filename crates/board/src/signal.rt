@@ -4,12 +4,12 @@ ghost use Rattle.board.specs.Signals.{SignalIs};
 
 use answers::refusal::Refusal;
 
-/// What comes with the readings of a gate, each with its number.
+/// What comes with the readings of a gate.
 #[derive(Clone, Copy, PartialEq, Eq)]
 pub enum Signal {
-    None = 0,
-    Veto = 1,
-    FastClear = 2,
+    None,
+    Veto,
+    FastClear,
 }
 
 impl TryFrom<u8> for Signal {

@@ -16,16 +16,7 @@ fn stores<B: Bank>(rt: &impl Abort, bank: &mut B, n: u16) {
 
 /// That event comes, with this number.
 fn draws_numbered<B: Bank>(rt: &impl Abort, bank: &mut B, n: u16, number: u32) {
-    draws(
-        rt,
-        bank,
-        &[
-            header(31, 0, 2),
-            datum(31, 5, n % 4096),
-            datum(31, 9, 4095 - n % 4096),
-            end(31, number),
-        ],
-    );
+    draws_pair(rt, bank, [n % 4096, 4095 - n % 4096], number);
 }
 
 /// The refused gate is counted under ALL TRG, so that number 32 belongs to no event.
@@ -66,16 +57,35 @@ fn a_full_buffer_takes_no_gate(rt: HostRuntime) {
     gates(&rt, &mut board, 0, &[1, 1], Err(24));
 }
 
-/// 100 events, each drawn when so many came after it.
-fn goes_round<B: Bank>(rt: &impl Abort, bank: &mut B, behind: u16) {
+/// So many events, each drawn when so many came after it.
+fn goes_round<B: Bank, S: Fn(&mut B, u16), D: Fn(&mut B, u16)>(
+    bank: &mut B,
+    events: u16,
+    behind: u16,
+    stores: S,
+    draws: D,
+)
+    requires stores { S.IsAlwaysCallable stores }
+    requires draws { D.IsAlwaysCallable draws }
+{
     for n in 0..200u16 {
-        if n < 100 {
-            stores(rt, bank, n);
+        if n < events {
+            stores(bank, n);
         }
-        if n >= behind && n - behind < 100 {
-            draws_numbered(rt, bank, n - behind, u32::from(n - behind));
+        if n >= behind && n - behind < events {
+            draws(bank, n - behind);
         }
     }
+}
+
+fn pairs_go_round<B: Bank>(rt: &impl Abort, bank: &mut B, behind: u16) {
+    goes_round(
+        bank,
+        100,
+        behind,
+        |bank, n| stores(rt, bank, n),
+        |bank, n| draws_numbered(rt, bank, n, u32::from(n)),
+    );
     draws_nothing(rt, bank);
 }
 
@@ -83,9 +93,9 @@ fn goes_round<B: Bank>(rt: &impl Abort, bank: &mut B, behind: u16) {
 fn the_buffer_goes_round(rt: HostRuntime) {
     for behind in [0, 1, 2, 30, 31] {
         let mut board = Board::new(Pair);
-        goes_round(&rt, &mut board, behind);
+        pairs_go_round(&rt, &mut board, behind);
         writes(&rt, &mut board, COUNTER_RESET, 0);
-        goes_round(&rt, &mut board, behind);
+        pairs_go_round(&rt, &mut board, behind);
     }
 }
 
@@ -105,11 +115,7 @@ fn draws_some<B: Bank>(rt: &impl Abort, bank: &mut B, n: u16) {
         1 => draws(rt, bank, &[header(31, 0, 1), datum(31, 5, n), last]),
         2 => draws(rt, bank, &[header(31, 0, 1), datum(31, 9, n), last]),
         3 => draws(rt, bank, &[header(31, 0, 0), last]),
-        _ => draws(
-            rt,
-            bank,
-            &[header(31, 0, 2), datum(31, 5, n), datum(31, 9, n), last],
-        ),
+        _ => draws_pair(rt, bank, [n, n], u32::from(n)),
     }
 }
 
@@ -119,14 +125,13 @@ fn places_are_used_again(rt: HostRuntime) {
     for behind in [0, 3, 31] {
         let mut board = Board::new(Pair);
         writes(&rt, &mut board, MODE, EMPTY);
-        for n in 0..200u16 {
-            if n < 160 {
-                stores_some(&rt, &mut board, n);
-            }
-            if n >= behind && n - behind < 160 {
-                draws_some(&rt, &mut board, n - behind);
-            }
-        }
+        goes_round(
+            &mut board,
+            160,
+            behind,
+            |board, n| stores_some(&rt, board, n),
+            |board, n| draws_some(&rt, board, n),
+        );
         draws_nothing(&rt, &mut board);
     }
 }

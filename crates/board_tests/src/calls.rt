@@ -1,10 +1,10 @@
 //! Calls at station 0, what each must answer, and all that can be seen of a board.
 
+use crate::by_hand::{datum, end, header};
 use answers::refusal::Refusal;
 use bank::Bank;
 use std::array;
 use std::process::Abort;
-use std::test::Fail;
 
 pub(crate) const GEO: u16 = 0x1002;
 
@@ -57,7 +57,7 @@ pub(crate) const KILL: u16 = 0x0100;
 /// What stands in a block before anything is written.
 pub(crate) const BLANK: u32 = 0xAAAA_AAAA;
 
-/// The answer, a refusal by its number.
+/// The answer, a refusal by its number, so that the numbers are tested too.
 fn told<T: Copy>(answer: Result<T, Refusal>) -> Result<T, u8> {
     answer.map_err(Refusal::number)
 }
@@ -115,6 +115,13 @@ pub(crate) fn writes<B: Bank>(rt: &impl Abort, bank: &mut B, offset: u16, value:
     );
 }
 
+/// The thresholds of all tags kill.
+pub(crate) fn kills_all<B: Bank>(rt: &impl Abort, bank: &mut B) {
+    for tag in 0..32 {
+        writes(rt, bank, THRESHOLDS + 2 * tag, KILL);
+    }
+}
+
 /// The write is refused by this number, and changes nothing that can be seen.
 pub(crate) fn refuses<B: Bank>(rt: &impl Abort, bank: &mut B, offset: u16, value: u16, number: u8) {
     let before = Seen::of(bank);
@@ -170,6 +177,25 @@ pub(crate) fn draws_into<B: Bank>(
 /// These are the words of the first event that waits, and it waits no more.
 pub(crate) fn draws<B: Bank>(rt: &impl Abort, bank: &mut B, words: &[u32]) {
     draws_into(rt, bank, &mut [0; 34], Ok(words.len()), words);
+}
+
+/// The first event that waits is of GEO 31 and crate 0, with this number, and tags 5 and 9 have these counts.
+pub(crate) fn draws_pair<B: Bank>(
+    rt: &impl Abort,
+    bank: &mut B,
+    [first, second]: [u16; 2],
+    number: u32,
+) {
+    draws(
+        rt,
+        bank,
+        &[
+            header(31, 0, 2),
+            datum(31, 5, first),
+            datum(31, 9, second),
+            end(31, number),
+        ],
+    );
 }
 
 /// No event waits to be drawn.

@@ -16,12 +16,6 @@ fn slot_counts() -> [u16; 32] {
     array::from_fn(|i| 100 + i as u16)
 }
 
-fn kills_all<B: Bank>(rt: &impl Abort, bank: &mut B) {
-    for tag in 0..32 {
-        writes(rt, bank, THRESHOLDS + 2 * tag, KILL);
-    }
-}
-
 /// GEO 3, crate 5, seven gates before this one; tag 4 counts 100, tag 5 counts 800, and the others are killed.
 #[test]
 fn two_readings(rt: HostRuntime) {

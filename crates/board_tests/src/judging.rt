@@ -11,9 +11,7 @@ use std::process::Abort;
 
 /// Tag 5 has this threshold, and every other is killed.
 fn sets_threshold<B: Bank>(rt: &impl Abort, bank: &mut B, threshold: u16) {
-    for tag in 0..32 {
-        writes(rt, bank, THRESHOLDS + 2 * tag, KILL);
-    }
+    kills_all(rt, bank);
     writes(rt, bank, THRESHOLDS + 10, threshold);
 }
 
@@ -165,16 +163,7 @@ fn nothing_kept(rt: HostRuntime) {
         &mut board,
         &[header(31, 0, 1), datum(31, 9, 4), end(31, 2)],
     );
-    draws(
-        &rt,
-        &mut board,
-        &[
-            header(31, 0, 2),
-            datum(31, 5, 3),
-            datum(31, 9, 4),
-            end(31, 3),
-        ],
-    );
+    draws_pair(&rt, &mut board, [3, 4], 3);
     draws_nothing(&rt, &mut board);
 }
 

@@ -1,6 +1,5 @@
 //! Stations past the first: a board is a bank of one.
 
-use crate::by_hand::*;
 use crate::calls::*;
 use bank::Bank;
 use board::board::Board;
@@ -117,16 +116,7 @@ fn events_wait_at_one_station(rt: HostRuntime) {
     }
     has_one_station(&rt, &mut board);
     for number in [0, 1] {
-        draws(
-            &rt,
-            &mut board,
-            &[
-                header(31, 0, 2),
-                datum(31, 5, 200),
-                datum(31, 9, 300),
-                end(31, number),
-            ],
-        );
+        draws_pair(&rt, &mut board, [200, 300], number);
     }
     draws_nothing(&rt, &mut board);
 }

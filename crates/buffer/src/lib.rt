@@ -6,3 +6,5 @@ pub mod fill;
 mod pointers;
 mod slot;
 mod spell;
+
+pub use pointers::SLOTS;

@@ -2,7 +2,7 @@
 
 ghost use Rattle.std.specs.Prelude.{◌≡◌, ◌+◌, ◌-◌, ◌%◌, ◌<◌, ◌≤◌};
 
-/// The slots of the buffer.
+/// The slots of the buffer: so many events wait at most.
 pub const SLOTS: u8 = 32;
 
 /// The slot of the first waiting event, the slot of the next one to come, and how many wait.

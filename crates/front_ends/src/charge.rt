@@ -32,19 +32,11 @@ impl FrontEnd for Charge {
     }
 
     fn tag(&self, slot: u8) -> Option<u8> {
-        if slot < 32 {
-            Some(TAGS[slot as usize])
-        } else {
-            None
-        }
+        TAGS.get(usize::from(slot)).copied()
     }
 
     fn slot(&self, tag: u8) -> Option<u8> {
-        if tag < 32 {
-            Some(SLOTS[tag as usize])
-        } else {
-            None
-        }
+        SLOTS.get(usize::from(tag)).copied()
     }
 
     fn carries_step(&self) -> bool {

@@ -16,6 +16,7 @@ pub enum Kind {
     Charge,
 }
 
+// Each question goes to the kind's own front end: a `&dyn FrontEnd` handed out would hide it (the check says `hides`).
 impl FrontEnd for Kind {
     ghost meaning = { front_of };
 

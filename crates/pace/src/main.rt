@@ -7,12 +7,10 @@ use bank::Bank;
 use board::board::Board;
 use front_ends::charge::Charge;
 use std::env;
+use words::word::LONGEST;
 
 /// The register that strikes the first waiting event.
 const SKIP: u16 = 0x1028;
-
-/// The words of the longest event.
-const BLOCK: usize = 34;
 
 /// One reading for each slot, every eighth overflowed.
 const READINGS: [u16; 32] = [
@@ -22,7 +20,7 @@ const READINGS: [u16; 32] = [
 
 /// Draws the event of the last gate, and answers the sum of its words, so that each of them has to be made.
 fn draw<B: Bank>(bank: &mut B) -> Result<u64, Refusal> {
-    let mut block = [0; BLOCK];
+    let mut block = [0; LONGEST];
     bank.draw(0, &mut block)?;
     Ok(
         block
@@ -32,6 +30,7 @@ fn draw<B: Bank>(bank: &mut B) -> Result<u64, Refusal> {
 }
 
 /// Puts a gate and takes its event, drawn or skipped; answers what was kept and drawn.
+// The flag is the program's second argument, there or not.
 fn pair<B: Bank>(bank: &mut B, drawn: bool) -> Result<u64, Refusal> {
     let kept = bank.gate(0, 0, &READINGS)?.map_or(0, u64::from);
     if drawn {

@@ -6,32 +6,24 @@ use anyhow::anyhow;
 use bank::Bank;
 use board::board::Board;
 use front_ends::kind::Kind;
-use player::{open, take};
 use script::mistake::Mistake;
 use script_text::reply::{Answer, Drawn, Reply};
+use std::fs::File;
 use std::io::{BufRead, BufReader, BufWriter, Stdin, Stdout, Write};
 use std::{env, fs, io};
 use words::word::bytes_of;
 
-/// A script, line by line, and where its answers and the drawn words go.
+/// A script, line by line, and where its answers and, if a file is named, the drawn words go.
 #[derive(Drop)]
-struct Desk<W: Write + Drop> {
+struct Desk {
     script: BufReader<Stdin>,
     line: Vec<u8>,
     number: u64,
     answers: BufWriter<Stdout>,
-    words: BufWriter<W>,
+    words: Option<BufWriter<File>>,
 }
 
-/// The line without its line end.
-fn without_end(line: &[u8]) -> &[u8] {
-    match line {
-        [start @ .., b'\n'] => start,
-        _ => line,
-    }
-}
-
-impl<W: Write + Drop> Desk<W> {
+impl Desk {
     /// The next line, none if the script has ended.
     fn next(&mut self) -> io::Result<Option<&[u8]>> {
         if !self.script.buffer().contains(&b'\n') {
@@ -44,7 +36,8 @@ impl<W: Write + Drop> Desk<W> {
         if length == 0 {
             return Ok(None);
         }
-        Ok(Some(without_end(&self.line)))
+        let line = self.line.as_slice();
+        Ok(Some(line.strip_suffix(b"\n").unwrap_or(line)))
     }
 
     fn tell(&mut self, told: Result<Answer, Mistake>) -> io::Result<()> {
@@ -59,19 +52,23 @@ impl<W: Write + Drop> Desk<W> {
 
     /// Keeps drawn words, high byte first.
     fn keep(&mut self, drawn: &Drawn) -> io::Result<()> {
+        let Some(file) = &mut self.words else {
+            return Ok(());
+        };
         for word in drawn.as_slice() {
-            self.words.write_all(&bytes_of(*word))?;
+            file.write_all(&bytes_of(*word))?;
         }
         Ok(())
     }
 
     /// The kind of board that the script names, none if it ends before.
-    fn open(&mut self) -> io::Result<Option<Kind>> {
+    fn find_board(&mut self) -> io::Result<Option<Kind>> {
+        // A loop on input has no end of its own, and needs this one to be proved to end.
         for _ in 0..u64::MAX {
             let Some(line) = self.next()? else {
                 break;
             };
-            match open(line) {
+            match player::open(line) {
                 Ok(None) => {}
                 Ok(Some(kind)) => return Ok(Some(kind)),
                 Err(mistake) => self.tell(Err(mistake))?,
@@ -81,12 +78,12 @@ impl<W: Write + Drop> Desk<W> {
     }
 
     /// Puts the rest of the script to the bank.
-    fn play<B: Bank + Drop>(&mut self, mut bank: B) -> io::Result<()> {
+    fn put_rest<B: Bank + Drop>(&mut self, mut bank: B) -> io::Result<()> {
         for _ in 0..u64::MAX {
             let Some(line) = self.next()? else {
                 break;
             };
-            if let Some(told) = take(&mut bank, line) {
+            if let Some(told) = player::take(&mut bank, line) {
                 self.tell(told)?;
             }
         }
@@ -96,22 +93,29 @@ impl<W: Write + Drop> Desk<W> {
     /// What is still held goes out.
     fn close(&mut self) -> io::Result<()> {
         self.answers.flush()?;
-        self.words.flush()
+        match &mut self.words {
+            Some(file) => file.flush(),
+            None => Ok(()),
+        }
     }
 }
 
-/// Plays the script on standard input, and keeps the drawn words there.
-fn play<W: Write + Drop>(rt: &HostRuntime, words: W) -> anyhow::Result<()> {
+/// Plays the script on standard input, and keeps the drawn words in the file, if there is one.
+fn play(rt: &HostRuntime, file: Option<File>) -> anyhow::Result<()> {
     let heap = rt.alloc();
+    let words = match file {
+        Some(file) => Some(BufWriter::new(heap, file)?),
+        None => None,
+    };
     let mut desk = Desk {
         script: BufReader::new(heap, rt.stdin())?,
         line: vec![in heap]?,
         number: 0,
         answers: BufWriter::new(heap, rt.stdout())?,
-        words: BufWriter::new(heap, words)?,
+        words,
     };
-    if let Some(kind) = desk.open()? {
-        desk.play(Board::new(kind))?;
+    if let Some(kind) = desk.find_board()? {
+        desk.put_rest(Board::new(kind))?;
     }
     desk.close()?;
     Ok(())
@@ -119,13 +123,14 @@ fn play<W: Write + Drop>(rt: &HostRuntime, words: W) -> anyhow::Result<()> {
 
 fn run(rt: &HostRuntime) -> anyhow::Result<()> {
     let mut args = env::args(rt)?.skip(1);
-    let Some(name) = args.next() else {
-        return play(rt, io::sink());
-    };
+    let name = args.next();
     if args.next().is_some() {
         return Err(anyhow!("usage: play [FILE] < SCRIPT"));
     }
-    play(rt, fs::create(rt, name)?)
+    match name {
+        Some(name) => play(rt, Some(fs::create(rt, name)?)),
+        None => play(rt, None),
+    }
 }
 
 fn main(rt: HostRuntime) -> anyhow::Result<()> {

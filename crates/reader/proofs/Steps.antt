@@ -4,7 +4,7 @@ use Rattle.std.proofs.lemmas.List.{length-drop, get_or-drop, drop-drop}
 use Rattle.reader.specs.Then.{then_by}
 
 pub err_ok : {A E : Type 0} {e : E} {a : A} → Err e ≡ Ok a → ⊥
-err_ok h = search rules
+err_ok h = cc
 
 pub ok_same : {A E : Type 0} {a b : A} → ◌≡◌ {A = Result A E} (Ok a) (Ok b) → a ≡ b
 ok_same h = cc
@@ -17,11 +17,7 @@ pub then_came : {A B E F : Type 0} (r : Result A E) (up : E → F) (f : A → Re
 then_came (Ok a) up f b h = (a, refl, h)
 then_came (Err e) up f b h = absurd (err_ok h)
 
--- an Ok behind a test that otherwise refuses, and behind one that refuses where it holds
-pub if_came : {A E : Type 0} (b : Bool) (r : Result A E) (e : E) (x : A) → cond b r (Err e) ≡ Ok x → (b ≡ true) × (r ≡ Ok x)
-if_came true r e x h = (refl, h)
-if_came false r e x h = absurd (err_ok h)
-
+-- an Ok behind a test that refuses where it holds
 pub unless_came : {A E : Type 0} (b : Bool) (r : Result A E) (e : E) (x : A) → cond b (Err e) r ≡ Ok x → (b ≡ false) × (r ≡ Ok x)
 unless_came false r e x h = (refl, h)
 unless_came true r e x h = absurd (err_ok h)

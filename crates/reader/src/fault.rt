@@ -108,7 +108,7 @@ impl Refusal {
         }
     }
 
-    /// The place of the word at fault, 0 where no word is.
+    /// The place of the word at fault, 0 where no word is: the record of a fault shows it so.
     pub fn place(&self) -> u16
         ensures { result ≡ refusal_place self.now }
     {

@@ -7,6 +7,7 @@ use reader::item::{Found, Item};
 use reader::run::read;
 use words::fault::{Layer, Report};
 
+/// What a test expects. Refusals and faults are told by their numbers, so that the numbers are tested too.
 #[derive(Clone, Copy, PartialEq, Debug)]
 pub(crate) enum Answer {
     End,

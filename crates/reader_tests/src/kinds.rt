@@ -14,8 +14,8 @@ fn slot_has_tag<F: FrontEnd>(rt: &impl Abort, front: &F, slot: u8, tag: u8) {
 fn ends_at_32<F: FrontEnd>(rt: &impl Abort, front: &F) {
     assert_eq!(rt; front.slots(), 32);
     for past in [32, 33, 255] {
-        assert_eq!(rt; front.tag(past), None, "{}", past);
-        assert_eq!(rt; front.slot(past), None, "{}", past);
+        assert_eq!(rt; front.tag(past), None, "{past}");
+        assert_eq!(rt; front.slot(past), None, "{past}");
     }
 }
 

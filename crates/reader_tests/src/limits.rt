@@ -35,12 +35,7 @@ fn the_longest_run_cut(rt: HostRuntime) -> Result<(), Fail> {
 fn a_run_too_long(rt: HostRuntime) -> Result<(), Fail> {
     let run = vec![in rt.alloc(); FILLER; 16385]?;
     for place in [0, 16385, 16386] {
-        assert_eq!(rt;
-            Answer::of_read(&run, place),
-            Answer::Refused(9),
-            "{}",
-            place
-        );
+        assert_eq!(rt; Answer::of_read(&run, place), Answer::Refused(9), "{place}");
     }
     Ok(())
 }

@@ -8,7 +8,8 @@ use std::process::Abort;
 /// What stands in a record space before anything is written.
 pub(crate) const BLANK: u8 = 0xAA;
 
-/// What was written must stand at the front of the space, and the rest be blank.
+/// What was written must stand at the front of the space, and the rest be blank. (The tests of boards and of runs look
+/// at theirs by themselves: a module of tests is not seen from another crate.)
 pub(crate) fn holds<T: Copy + PartialEq + Debug>(
     rt: &impl Abort,
     space: &[T],

@@ -25,6 +25,7 @@ const ROOM: usize = RECORD * MOST_WORDS + SPACE;
 const MOST_BYTES: usize = 4 * MOST_WORDS + 1;
 
 /// The kind of board that the arguments name, a charge board where there are none.
+// Not shared with scripts, which also know the word `charge`: here any word but `time` is an unknown argument.
 fn kind_of(rt: &HostRuntime) -> anyhow::Result<Option<Kind>> {
     let mut args = env::args(rt)?.skip(1);
     Ok(match args.next() {

@@ -9,9 +9,9 @@ use Rattle.script.specs.declared.call.Line.{Line}
 use Rattle.script.specs.declared.call.Line.TheVariants as line
 use Rattle.script.specs.declared.mistake.Mistake.{Mistake}
 use Rattle.script.specs.declared.mistake.Mistake.TheVariants.{UnknownCall}
-use Rattle.script.specs.declared.mistake.Place.TheVariants.{Offset, Value, Length}
+use Rattle.script.specs.declared.mistake.Place.TheVariants.{Signal, Offset, Value, Length}
 use Rattle.script.specs.AndThen.{and_then}
-use Rattle.script.specs.Calls.{signal_of, first_number, ended, gate_of, write_of, read_of, waiting_of, draw_of, waiting_or_draw_of, call_of}
+use Rattle.script.specs.Calls.{signal_of, first_part, first_number, ended, gate_of, write_of, read_of, waiting_of, draw_of, waiting_or_draw_of, call_of}
 use Rattle.script.specs.Lines.{board_of, line_of, parsed, ShortCall, ShortBlock}
 use Rattle.script.specs.Numbers.{between, in_range, number_of}
 use Rattle.script.specs.Parts.{parts, said}
@@ -26,8 +26,7 @@ short_then (Ok a) f h = h a
 short_then (Err e) f h = tt
 
 gate_short : (ps : List (List ℕ)) → Short (gate_of ps)
-gate_short [] = tt
-gate_short (p ∷ ps) = short_then (signal_of p) _ (λ s. short_then (readings_in ps) _ (λ rs. tt))
+gate_short ps = short_then (first_part Signal ps) _ (λ p. short_then (signal_of p) _ (λ s. short_then (readings_in (drop 1 ps)) _ (λ rs. tt)))
 
 write_short : (ps : List (List ℕ)) → Short (write_of ps)
 write_short ps = short_then (first_number Offset ps) _ (λ o. short_then (first_number Value (drop 1 ps)) _ (λ v. short_then (ended (drop 2 ps)) _ (λ e. tt)))

@@ -71,9 +71,3 @@ next_part bs i n e h g k =
     let f = found bs i h in
     let m : n ≡ position_or_len gap (drop i bs) = k ∙ ap (λ (o : Option ℕ). unwrap_or o (length (drop i bs))) g ∙ or_length gap (drop i bs) in
     rw (m, f.0) (first_part bs f.1)
-
-pub part_within : (bs : List ℕ) (n : ℕ) (e : Option ℕ) → e ≡ position gap bs → n ≡ unwrap_or e (length bs) → n ≤ length bs
-part_within bs n e g k =
-    let m : n ≡ position_or_len gap bs = k ∙ ap (λ (o : Option ℕ). unwrap_or o (length bs)) g ∙ or_length gap bs in
-    let l = prefix_len-le-length (λ x. not (gap x)) bs in
-    omega arith

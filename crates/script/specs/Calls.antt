@@ -1,5 +1,6 @@
 -- Calls and their arguments.
 use Rattle.std.specs.Prelude.{ℕ, if◌then◌else◌, List, [], ◌∷◌, drop, Some, None, Ok, Err, codes, Option, Result}
+use Rattle.std.specs.Borrow.{Bor}
 use Rattle.std.specs.Str.{bytes_eq}
 use Rattle.script.specs.declared.call.Call.{Call}
 use Rattle.script.specs.declared.call.Call.TheVariants as call
@@ -23,10 +24,17 @@ named_or (Some s) r = Ok s
 abbrev pub signal_of : List ℕ → Result ℕ Mistake
 signal_of bs = named_or (named_signal bs) (number_in Signal bs)
 
+-- a part that has to stand first
+abbrev pub first_part : Place → List (List ℕ) → Result (List ℕ) Mistake
+first_part p [] = Err (Number p Missing)
+first_part p (bs ∷ ps) = Ok bs
+
+abbrev pub part_of : Result (Bor (List ℕ)) Mistake → Result (List ℕ) Mistake
+part_of r = and_then r (λ b. Ok b.now)
+
 -- a number that has to stand first
 abbrev pub first_number : Place → List (List ℕ) → Result ℕ Mistake
-first_number p [] = Err (Number p Missing)
-first_number p (bs ∷ ps) = number_in p bs
+first_number p ps = and_then (first_part p ps) (λ bs. number_in p bs)
 
 -- nothing is left
 abbrev pub ended : List (List ℕ) → Result (Unit {0}) Mistake
@@ -34,8 +42,8 @@ ended [] = Ok tt
 ended (p ∷ ps) = Err Surplus
 
 abbrev pub gate_of : List (List ℕ) → Result Call Mistake
-gate_of [] = Err (Number Signal Missing)
-gate_of (p ∷ ps) = and_then (signal_of p) (λ s. and_then (readings_in ps) (λ rs. Ok (call.Gate s rs)))
+gate_of ps =
+    and_then (first_part Signal ps) (λ p. and_then (signal_of p) (λ s. and_then (readings_in (drop 1 ps)) (λ rs. Ok (call.Gate s rs))))
 
 abbrev pub write_of : List (List ℕ) → Result Call Mistake
 write_of ps =

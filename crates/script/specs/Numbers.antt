@@ -28,8 +28,8 @@ abbrev pub number_of : List ℕ → Option ℕ
 number_of bs = if hexadecimal bs then numeral_of 16 (drop 2 bs) else numeral_of 10 bs
 
 -- a number past every range is as good as any other such
-abbrev pub capped : Option ℕ → Option ℕ
-capped o = option_map (λ n. min n (2 ^ 32 - 1)) o
+abbrev pub saturated : Option ℕ → Option ℕ
+saturated o = option_map (λ n. min n (2 ^ 32 - 1)) o
 
 abbrev pub least_of : Place → ℕ
 least_of Signal = 0

@@ -2,7 +2,7 @@
 
 ghost use Rattle.std.specs.Prelude.{◌≡◌, ◌≤◌, false};
 ghost use Rattle.std.specs.Range.{range_inclusive_start, range_inclusive_end, range_inclusive_exhausted};
-ghost use Rattle.script.specs.Numbers.{numeral_of, number_of, capped, least_of, most_of, number_in};
+ghost use Rattle.script.specs.Numbers.{numeral_of, number_of, saturated, least_of, most_of, number_in};
 
 use crate::mistake::{Flaw, Mistake, Place};
 use std::ops::RangeInclusive;
@@ -12,7 +12,7 @@ use std::ops::RangeInclusive;
 fn numeral(base: u32, digits: &[u8]) -> Option<u32>
     requires base_low { 2 ≤ base }
     requires base_high { base ≤ 16 }
-    ensures { result ≡ capped (numeral_of base digits.now) }
+    ensures { result ≡ saturated (numeral_of base digits.now) }
 {
     if digits.is_empty() {
         return None;
@@ -26,7 +26,7 @@ fn numeral(base: u32, digits: &[u8]) -> Option<u32>
 }
 
 fn number(bytes: &[u8]) -> Option<u32>
-    ensures { result ≡ capped (number_of bytes.now) }
+    ensures { result ≡ saturated (number_of bytes.now) }
 {
     match bytes {
         [b'0', b'x', digits @ ..] => numeral(16, digits),

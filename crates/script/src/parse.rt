@@ -10,6 +10,7 @@ use crate::mistake::Mistake;
 use crate::parts::{Parts, said_by};
 use front_ends::kind::Kind;
 
+// Not shared with `records`, which knows the word `time` alone: `records charge` is an unknown argument.
 fn parse_kind(part: &[u8]) -> Result<Kind, Mistake>
     ensures { result ≡ kind_of part.now }
 {

@@ -2,8 +2,8 @@
 
 ghost use Rattle.std.specs.Prelude.{◌≡◌, drop, position, ◌==◌};
 ghost use Rattle.std.specs.Iterator.{YieldsFirstRef, item_count};
-ghost use Rattle.script.specs.Calls.{first_number, ended};
-ghost use Rattle.script.specs.Parts.{gap, solid, parts, pair_of, split_once, unreturned, said};
+ghost use Rattle.script.specs.Calls.{part_of, first_part, first_number, ended};
+ghost use Rattle.script.specs.Parts.{gap, solid, parts, pair_of, split_once, said};
 
 use crate::mistake::{Flaw, Mistake, Place};
 use crate::numbers::number_in;
@@ -59,13 +59,20 @@ impl<'a> Parts<'a> {
         Parts { rest: bytes }
     }
 
+    /// The next part, which has to stand there.
+    pub(crate) fn part(&mut self, place: Place) -> Result<&'a [u8], Mistake>
+        ensures is { part_of result ≡ first_part place self.old }
+        ensures rest { self.new ≡ drop 1 self.old }
+    {
+        self.next().ok_or(Mistake::Number(place, Flaw::Missing))
+    }
+
     /// The number that the next part writes.
     pub(crate) fn number(&mut self, place: Place) -> Result<u16, Mistake>
         ensures is { result ≡ first_number place self.old }
         ensures rest { self.new ≡ drop 1 self.old }
     {
-        let missing = Mistake::Number(place, Flaw::Missing);
-        number_in(place, self.next().ok_or(missing)?)
+        number_in(place, self.part(place)?)
     }
 
     /// No part is left.
@@ -95,17 +102,7 @@ impl<'a> Iterator for Parts<'a> {
     }
 }
 
-/// The line without the carriage return at its end.
-fn without_return(line: &[u8]) -> &[u8]
-    ensures { result.now ≡ unreturned line.now }
-{
-    match line {
-        [start @ .., b'\r'] => start,
-        _ => line,
-    }
-}
-
-/// What stands before the first such byte, and what stands behind it.
+/// What stands before the first such byte, and what stands behind it. (The library has it for text only.)
 pub(crate) fn split_once(at: u8, bytes: &[u8]) -> Option<(&[u8], &[u8])>
     ensures { pair_of result ≡ split_once at bytes.now }
 {
@@ -117,7 +114,7 @@ pub(crate) fn split_once(at: u8, bytes: &[u8]) -> Option<(&[u8], &[u8])>
 pub(crate) fn said_by(line: &[u8]) -> &[u8]
     ensures { result.now ≡ said line.now }
 {
-    let line = without_return(line);
+    let line = line.strip_suffix(b"\r").unwrap_or(line);
     match split_once(b'#', line) {
         Some((said, _)) => said,
         None => line,

@@ -1,14 +1,12 @@
 //! The line that names the board.
 
-use crate::said::check_lines;
+use crate::said::{SURPLUS, check_lines};
 use std::test::Fail;
 
 #[test]
 fn boards(rt: HostRuntime) -> Result<(), Fail> {
     const KIND: &str =
         "1: not understood: the board's kind is missing or unknown; expected time or charge";
-    const SURPLUS: &str =
-        "1: not understood: a part is left over; expected the line's end before it";
     check_lines(
         &rt,
         &[

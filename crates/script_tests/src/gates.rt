@@ -1,6 +1,6 @@
 //! Gates: the signal, and readings with their repetitions.
 
-use crate::said::check_lines;
+use crate::said::{READING_RANGE, check_lines};
 use script::call::{Call, Line};
 use script::parse::parse;
 use std::test::Fail;
@@ -36,8 +36,6 @@ fn signals(rt: HostRuntime) -> Result<(), Fail> {
 
 #[test]
 fn readings(rt: HostRuntime) -> Result<(), Fail> {
-    const RANGE: &str =
-        "1: not understood: a reading is out of range; expected a number up to 65535";
     const NUMBER: &str =
         "1: not understood: a reading is not a number, decimal or after 0x; expected a number up to 65535";
     check_lines(
@@ -45,8 +43,8 @@ fn readings(rt: HostRuntime) -> Result<(), Fail> {
         &[
             ("gate none 1", "gate 0: 1"),
             ("gate none 1 0 65535 0xFFFF", "gate 0: 1 0 65535 65535"),
-            ("gate none 65536", RANGE),
-            ("gate none 1 0x10000 x", RANGE),
+            ("gate none 65536", READING_RANGE),
+            ("gate none 1 0x10000 x", READING_RANGE),
             ("gate none x 65536", NUMBER),
             ("gate none *2", NUMBER),
             ("gate none *", NUMBER),
@@ -71,10 +69,7 @@ fn repetitions(rt: HostRuntime) -> Result<(), Fail> {
             ("gate none 7*", NUMBER),
             ("gate none 7*x", NUMBER),
             ("gate none 7*2*2", NUMBER),
-            (
-                "gate none 65536*0",
-                "1: not understood: a reading is out of range; expected a number up to 65535",
-            ),
+            ("gate none 65536*0", READING_RANGE),
         ],
     )
 }
@@ -98,7 +93,7 @@ fn many_readings(rt: HostRuntime) -> Result<(), Fail> {
         ("gate none 1*64 2*64 3*64 4*64 6", None),
         ("gate none 1*64 2*64 3*64 4*63 6*2", None),
     ] {
-        assert_eq!(rt; counted(line.as_bytes()), count, "{}", line);
+        assert_eq!(rt; counted(line.as_bytes()), count, "{line}");
     }
     check_lines(
         &rt,

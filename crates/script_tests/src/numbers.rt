@@ -1,12 +1,7 @@
 //! Numbers of every length, on each side of the limit.
 
-use crate::said::check_lines;
+use crate::said::{OFFSET_NUMBER, OFFSET_RANGE, check_lines};
 use std::test::Fail;
-
-const RANGE: &str = "1: not understood: the offset is out of range; expected a number up to 65535";
-
-const NUMBER: &str =
-    "1: not understood: the offset is not a number, decimal or after 0x; expected a number up to 65535";
 
 #[test]
 fn decimals(rt: HostRuntime) -> Result<(), Fail> {
@@ -17,19 +12,19 @@ fn decimals(rt: HostRuntime) -> Result<(), Fail> {
             ("read 9", "read 9"),
             ("read 10", "read 10"),
             ("read 65535", "read 65535"),
-            ("read 65536", RANGE),
-            ("read 131071", RANGE),
-            ("read 4294967296", RANGE),
-            ("read 18446744073709551616", RANGE),
+            ("read 65536", OFFSET_RANGE),
+            ("read 131071", OFFSET_RANGE),
+            ("read 4294967296", OFFSET_RANGE),
+            ("read 18446744073709551616", OFFSET_RANGE),
             ("read 000000000000000000000065535", "read 65535"),
-            ("read 65535.", NUMBER),
-            ("read 12a", NUMBER),
-            ("read a12", NUMBER),
-            ("read -1", NUMBER),
-            ("read +1", NUMBER),
-            ("read 1_000", NUMBER),
-            ("read /", NUMBER),
-            ("read :", NUMBER),
+            ("read 65535.", OFFSET_NUMBER),
+            ("read 12a", OFFSET_NUMBER),
+            ("read a12", OFFSET_NUMBER),
+            ("read -1", OFFSET_NUMBER),
+            ("read +1", OFFSET_NUMBER),
+            ("read 1_000", OFFSET_NUMBER),
+            ("read /", OFFSET_NUMBER),
+            ("read :", OFFSET_NUMBER),
         ],
     )
 }
@@ -44,18 +39,18 @@ fn hexadecimals(rt: HostRuntime) -> Result<(), Fail> {
             ("read 0xA", "read 10"),
             ("read 0xfFfF", "read 65535"),
             ("read 0x9", "read 9"),
-            ("read 0x10000", RANGE),
+            ("read 0x10000", OFFSET_RANGE),
             ("read 0x00000000000000000000ffff", "read 65535"),
-            ("read 0xFFFFFFFFFFFFFFFFF", RANGE),
-            ("read 0x", NUMBER),
-            ("read 0xG", NUMBER),
-            ("read 0xg", NUMBER),
-            ("read 0x@", NUMBER),
-            ("read 0x`", NUMBER),
-            ("read 0X10", NUMBER),
-            ("read x10", NUMBER),
-            ("read 00x10", NUMBER),
-            ("read 0x0x1", NUMBER),
+            ("read 0xFFFFFFFFFFFFFFFFF", OFFSET_RANGE),
+            ("read 0x", OFFSET_NUMBER),
+            ("read 0xG", OFFSET_NUMBER),
+            ("read 0xg", OFFSET_NUMBER),
+            ("read 0x@", OFFSET_NUMBER),
+            ("read 0x`", OFFSET_NUMBER),
+            ("read 0X10", OFFSET_NUMBER),
+            ("read x10", OFFSET_NUMBER),
+            ("read 00x10", OFFSET_NUMBER),
+            ("read 0x0x1", OFFSET_NUMBER),
         ],
     )
 }
@@ -68,5 +63,12 @@ fn a_hundred_digits(rt: HostRuntime) -> Result<(), Fail> {
         "read 0000000000000000000000000000000000000000000000000000000000000000000000000000000000000000000000000007";
     const LETTER: &str =
         "read 999999999999999999999999999999999999999999999999999999999999999999999999999999999999999999999999999a";
-    check_lines(&rt, &[(NINES, RANGE), (ZEROS, "read 7"), (LETTER, NUMBER)])
+    check_lines(
+        &rt,
+        &[
+            (NINES, OFFSET_RANGE),
+            (ZEROS, "read 7"),
+            (LETTER, OFFSET_NUMBER),
+        ],
+    )
 }

@@ -1,13 +1,7 @@
 //! Spaces, tabs, comments, line ends and noise.
 
-use crate::said::{check_bytes, check_lines};
+use crate::said::{NO_OFFSET, OFFSET_NUMBER, UNKNOWN, check_bytes, check_lines};
 use std::test::Fail;
-
-const UNKNOWN: &str =
-    "1: not understood: the call is unknown; expected board, gate, write, read, waiting or draw";
-
-const NUMBER: &str =
-    "1: not understood: the offset is not a number, decimal or after 0x; expected a number up to 65535";
 
 #[test]
 fn blank_lines(rt: HostRuntime) -> Result<(), Fail> {
@@ -37,14 +31,11 @@ fn gaps(rt: HostRuntime) -> Result<(), Fail> {
             ("read \t  1 \t", "read 1"),
             ("read 1# one", "read 1"),
             ("read 1#", "read 1"),
-            (
-                "read# 1",
-                "1: not understood: the offset is missing; expected a number up to 65535",
-            ),
+            ("read# 1", NO_OFFSET),
             ("read 1\r", "read 1"),
             ("read 1 \r", "read 1"),
-            ("read 1\r\r", NUMBER),
-            ("read 1\r# one", NUMBER),
+            ("read 1\r\r", OFFSET_NUMBER),
+            ("read 1\r# one", OFFSET_NUMBER),
             ("read\x0b1", UNKNOWN),
             ("waiting\r", "waiting"),
             ("\rwaiting", UNKNOWN),
@@ -56,8 +47,8 @@ fn gaps(rt: HostRuntime) -> Result<(), Fail> {
 fn noise(rt: HostRuntime) -> Result<(), Fail> {
     check_bytes(&rt, b"\x80", UNKNOWN)?;
     check_bytes(&rt, b"\xff\xfe\x00 \x80", UNKNOWN)?;
-    check_bytes(&rt, b"read \xb1", NUMBER)?;
-    check_bytes(&rt, b"read 1\xa0", NUMBER)?;
+    check_bytes(&rt, b"read \xb1", OFFSET_NUMBER)?;
+    check_bytes(&rt, b"read 1\xa0", OFFSET_NUMBER)?;
     check_bytes(&rt, b"read 1 # \xff\x80", "read 1")?;
     check_bytes(&rt, b"\x00", UNKNOWN)
 }

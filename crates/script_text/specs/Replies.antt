@@ -34,19 +34,19 @@ count_text (Err e) = refused_text e
 abbrev pub drawn_of : Drawn → List ℕ
 drawn_of d = d.words.items
 
-abbrev pub drawn_text : Drawn → List ℕ
-drawn_text d = decimal (length (drawn_of d)) ++ (codes " words:" ++ words_text (drawn_of d))
+abbrev pub block_text : Drawn → List ℕ
+block_text d = decimal (length (drawn_of d)) ++ (codes " words:" ++ words_text (drawn_of d))
 
-abbrev pub draw_text : Result Drawn Refusal → List ℕ
-draw_text (Ok d) = drawn_text d
-draw_text (Err e) = refused_text e
+abbrev pub drawn_text : Result Drawn Refusal → List ℕ
+drawn_text (Ok d) = block_text d
+drawn_text (Err e) = refused_text e
 
 abbrev pub answer_text : Answer → List ℕ
 answer_text (Gate r) = codes "gate: " ++ gated_text r
 answer_text (Write offset r) = codes "write " ++ (four_digits offset ++ (codes ": " ++ done_text r))
 answer_text (Read offset r) = codes "read " ++ (four_digits offset ++ (codes ": " ++ value_text r))
 answer_text (Waiting r) = codes "waiting: " ++ count_text r
-answer_text (Draw r) = codes "draw: " ++ draw_text r
+answer_text (Draw r) = codes "draw: " ++ drawn_text r
 
 abbrev pub told_text : Result Answer Mistake → List ℕ
 told_text (Ok a) = answer_text a

@@ -43,10 +43,10 @@ impl From<u16> for Hex<2> {
 }
 
 impl From<u32> for Hex<4> {
-    ghost from_gives = { λ n x. hex_text x.0 ≡ eight_digits n };
+    ghost from_gives = { λ w x. hex_text x.0 ≡ eight_digits w };
 
-    fn from(number: u32) -> Self {
-        Hex(number.to_be_bytes())
+    fn from(word: u32) -> Self {
+        Hex(word.to_be_bytes())
     }
 }
 

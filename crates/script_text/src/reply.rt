@@ -1,7 +1,7 @@
 //! The line that tells what a line of a script came to.
 
 ghost use Rattle.std.specs.Prelude.{◌≡◌, Some};
-ghost use Rattle.script_text.specs.Replies.{drawn_of, drawn_text, answer_text, reply_text};
+ghost use Rattle.script_text.specs.Replies.{drawn_of, block_text, answer_text, reply_text};
 
 use crate::digits::Hex;
 use answers::refusal::Refusal;
@@ -28,7 +28,7 @@ impl Drawn {
 }
 
 impl fmt::Display for Drawn {
-    ghost output = { λ x. Some (drawn_text x) };
+    ghost output = { λ x. Some (block_text x) };
 
     fn fmt<W: fmt::Write>(&self, f: &mut fmt::Formatter<W>) -> fmt::Result {
         let words = self.as_slice();

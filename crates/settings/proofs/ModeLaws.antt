@@ -28,7 +28,7 @@ abbrev Named : List ModeBit → ℕ → ℕ → Type 0
 Named bs v k = (not (has v k) || among bs k) ≡ true
 
 named_below : (bs : List ModeBit) (v n k : ℕ) → names_only_below n bs v ≡ true → k < n → Named bs v k
-named_below bs v zero k e l = absurd (let no : ⊥ = omega arith in no)
+named_below bs v zero k e l = absurd (omega arith)
 named_below bs v (suc n) k e l =
     let parts = and_parts (not (has v n) || among bs n) (names_only_below n bs v) e in
     ⊎_elim (λ (q : k ≡ n). rw q parts.0) (λ (q : k ≡ n → ⊥). named_below bs v n k parts.1 (omega arith)) (cases_eq k n)

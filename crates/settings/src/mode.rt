@@ -40,7 +40,11 @@ const CARRIED_WITH_STEP: u16 = CARRIED | 1 << ModeBit::Step as u16;
 
 impl Mode {
     /// AUTO INCR, SLIDE ENABLE and ALL TRG stand at power-on.
-    pub const POWER_ON: Mode = Mode { word: 0x4880 };
+    pub const POWER_ON: Mode = Mode {
+        word: 1 << ModeBit::AutoIncr as u16
+            | 1 << ModeBit::SlideEnable as u16
+            | 1 << ModeBit::AllTrg as u16,
+    };
 
     /// Whether the bit is 1.
     pub fn stands(self, choice: ModeBit) -> bool
@@ -84,6 +88,7 @@ impl Mode {
 }
 
 /// Whether each bit that is 1 in the value is one that the board carries. STEP is carried by some boards only.
+// The flag is the front end's own answer.
 pub fn carries(step: bool, value: u16) -> bool
     ensures { result ≡ names_only (carried step) value }
 {

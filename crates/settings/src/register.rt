@@ -27,6 +27,7 @@ pub enum Register {
 
 impl Register {
     /// The register at an offset, or none.
+    // No TryFrom: an address is looked up, and of the answer it is said too that it is exact.
     pub fn at(offset: u16) -> Option<Register>
         ensures is { result ≡ register_at offset }
         ensures exact { RegisterIs offset result }

@@ -11,6 +11,7 @@ use answers::refusal::Refusal;
 #[derive(Clone, Copy)]
 pub struct Threshold {
     pub level: u8,
+    // A flag beside the level, which stays under it: the register shows both.
     pub kill: bool,
 }
 

@@ -13,11 +13,6 @@ onto_more xs ys d at k p q =
     ∙ ap (λ t. xs ++ (ys ++ t)) rest
     ∙ sym (append_assoc xs ys (drop (length (xs ++ ys)) d))
 
--- what was written lies within the space
-pub onto_within : {A : Type 0} (xs d after : List A) (n : ℕ) → n ≡ length xs → after ≡ onto xs d → length after ≡ length d → n ≤ length after
-onto_within xs d after n h e same =
-    omega (arith, ap length e, length-append xs (drop (length xs) d), length-drop (length xs) d)
-
 -- one more behind xs
 pub onto_push : {A : Type 0} (xs d : List A) (at : ℕ) (x : A) → length xs ≡ at → at < length d → set (onto xs d) at x ≡ onto (xs ++ x ∷ []) d
 onto_push xs d at x p l =

@@ -36,7 +36,7 @@ pub enum Layer {
     Run,
 }
 
-/// What a fault of any layer tells.
+/// What a fault of any layer tells. The places stand under their own names, as a spot's do.
 #[derive(Clone, Copy, PartialEq, Eq, Debug)]
 pub struct Report {
     pub number: u8,
@@ -52,6 +52,19 @@ pub enum Due {
     First,
     Datum,
     End,
+}
+
+impl Due {
+    /// That is wrong with the word that was due.
+    pub(crate) fn fault(self, cause: WordCause, spot: Spot) -> WordFault
+        ensures { result ≡ record { cause = cause; due = self; spot = spot } }
+    {
+        WordFault {
+            cause,
+            due: self,
+            spot,
+        }
+    }
 }
 
 /// What is wrong with a word.

@@ -12,6 +12,18 @@ ghost use Rattle.words.specs.Words.{bits, word_bytes, make_header, make_datum, m
 
 use crate::fault::{Due, Spot, WordCause, WordFault};
 
+/// A GEO is below this.
+pub const GEOS: u8 = 32;
+
+/// An event's number is below this.
+pub const NUMBERS: u32 = 1 << 24;
+
+/// A count is below this.
+pub const COUNTS: u16 = 1 << 12;
+
+/// The words of the longest event: a header, 32 data and an end.
+pub const LONGEST: usize = 34;
+
 /// The word that begins an event.
 #[derive(Clone, Copy, PartialEq, Eq, Debug)]
 pub struct Header {
@@ -20,7 +32,8 @@ pub struct Header {
     pub readings: u8,
 }
 
-/// What one converter gave: where it was read, how it was judged, and its count.
+/// What one converter gave: where it was read, how it was judged, and its count. The word has a count whatever its
+/// two bits say, so they are no `Option`.
 #[derive(Clone, Copy, PartialEq, Eq, Debug)]
 pub struct Reading {
     pub tag: u8,
@@ -43,7 +56,7 @@ pub struct End {
     pub number: u32,
 }
 
-/// What may stand where an event or a filler is due.
+/// What may stand where an event or a filler is due. No `Option`: a filler is a word, not the lack of one.
 #[derive(Clone, Copy, PartialEq, Eq, Debug)]
 pub enum First {
     Header(Header),
@@ -90,15 +103,14 @@ pub fn bytes_of(word: u32) -> [u8; 4]
     word.to_be_bytes()
 }
 
-// The three makers of words stay methods that answer an `Option`: `u32::try_from(header)` would need an error type that
-// says no more than none does, and would not say that it is a word that is made.
+// The makers of words answer an `Option`, and are no `TryFrom`: its error would say no more than none does.
 impl Header {
     /// The header's word, or none where a part does not fit its bits.
     pub fn word(&self) -> Option<u32>
         ensures is { result ≡ make_header self.now }
         ensures again { Again read_first (First.Header self.now) result }
     {
-        if self.geo < 32 && self.readings < 64 {
+        if self.geo < GEOS && self.readings < 64 {
             Some(
                 (u32::from(self.geo) << 27)
                     + ((WordKind::Header as u32) << 24)
@@ -125,7 +137,6 @@ impl From<u32> for Reading {
     }
 }
 
-// Each fault is spelt out: made by a function of its own it costs the reader two more instructions a word.
 impl Datum {
     /// The datum's word, or none where a part does not fit its bits.
     pub fn word(&self) -> Option<u32>
@@ -133,7 +144,7 @@ impl Datum {
         ensures again { Again read_datum self.now result }
     {
         let reading = self.reading;
-        if self.geo < 32 && reading.tag < 32 && reading.count < 4096 {
+        if self.geo < GEOS && reading.tag < 32 && reading.count < COUNTS {
             Some(
                 (u32::from(self.geo) << 27)
                     + (u32::from(reading.tag) << 16)
@@ -152,18 +163,10 @@ impl Datum {
         ensures only { ReadsOnly DatumIs Due.Datum word spot result }
     {
         let Some(WordKind::Datum) = WordKind::of(word) else {
-            return Err(WordFault {
-                cause: WordCause::Kind,
-                due: Due::Datum,
-                spot,
-            });
+            return Err(Due::Datum.fault(WordCause::Kind, spot));
         };
         if field(word, 21, 3) != 0 || field(word, 14, 2) != 0 {
-            return Err(WordFault {
-                cause: WordCause::Bit,
-                due: Due::Datum,
-                spot,
-            });
+            return Err(Due::Datum.fault(WordCause::Bit, spot));
         }
         Ok(Datum {
             geo: field(word, 27, 5) as u8,
@@ -178,7 +181,7 @@ impl End {
         ensures is { result ≡ make_end self.now }
         ensures again { Again read_end self.now result }
     {
-        if self.geo < 32 && self.number < 1 << 24 {
+        if self.geo < GEOS && self.number < NUMBERS {
             Some((u32::from(self.geo) << 27) + ((WordKind::End as u32) << 24) + self.number)
         } else {
             None
@@ -191,11 +194,7 @@ impl End {
         ensures only { ReadsOnly EndIs Due.End word spot result }
     {
         let Some(WordKind::End) = WordKind::of(word) else {
-            return Err(WordFault {
-                cause: WordCause::Kind,
-                due: Due::End,
-                spot,
-            });
+            return Err(Due::End.fault(WordCause::Kind, spot));
         };
         Ok(End {
             geo: field(word, 27, 5) as u8,
@@ -219,16 +218,8 @@ impl First {
                     readings: field(word, 8, 6) as u8,
                 }))
             }
-            Some(WordKind::Header) => Err(WordFault {
-                cause: WordCause::Bit,
-                due: Due::First,
-                spot,
-            }),
-            _ => Err(WordFault {
-                cause: WordCause::Kind,
-                due: Due::First,
-                spot,
-            }),
+            Some(WordKind::Header) => Err(Due::First.fault(WordCause::Bit, spot)),
+            _ => Err(Due::First.fault(WordCause::Kind, spot)),
         }
     }
 }

@@ -5,8 +5,9 @@ ghost use Rattle.bank.specs.Reads.{status, read_threshold, read_answer};
 ghost use Rattle.front_ends.specs.Fronts.{slot_of};
 ghost use Rattle.board.specs.Played.{board_of};
 
-use crate::board::{Board, FULL};
+use crate::board::Board;
 use answers::refusal::Refusal;
+use buffer::SLOTS;
 use front_ends::front_end::FrontEnd;
 use settings::mode::ModeBit;
 use settings::register::Register;
@@ -25,7 +26,7 @@ impl<F: FrontEnd> Board<F> {
         ensures { result ≡ status (board_of self.now) }
     {
         let waiting = self.buffer.waiting();
-        let busy = waiting >= FULL || self.settings.mode.stands(ModeBit::ClearData);
+        let busy = waiting >= usize::from(SLOTS) || self.settings.mode.stands(ModeBit::ClearData);
         READY * u16::from(waiting > 0) + BUSY * u16::from(busy)
     }
 

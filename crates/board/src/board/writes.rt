@@ -15,9 +15,10 @@ use settings::mode::{Mode, ModeBit, carries};
 use settings::register::Register;
 use settings::settings::Settings;
 use settings::threshold::Threshold;
+use words::word::GEOS;
 
 /// The highest GEO.
-const MOST_GEO: u8 = 31;
+const MOST_GEO: u8 = GEOS - 1;
 
 /// The highest crate.
 const MOST_CRATE: u8 = 255;

@@ -1,6 +1,6 @@
 use Rattle.std.proofs.Common.{rules, ◌≡◌, ◌<◌, get_or, ap, ◌∙◌, arith}
 use Rattle.std.specs.Char.{digit_value}
-use Rattle.script.specs.Numbers.{capped}
+use Rattle.script.specs.Numbers.{saturated}
 use Rattle.script.proofs.Counting.{numeral_more, numeral_all, some_numeral}
 use Rattle.script.proofs.numbers.numeral.Goals as goal
 
@@ -15,4 +15,4 @@ loop-byte-preserved c =
 pub returns : goal.returns
 returns c =
     numeral_all c.args.base c.loop-byte.number c.args.digits.now c.loop-byte.byte-index _ (search rules) c.loop-byte.invariant.0 c.loop-byte.invariant.1
-    ∙ ap capped (some_numeral c.args.base c.args.digits.now (search rules))
+    ∙ ap saturated (some_numeral c.args.base c.args.digits.now (search rules))
