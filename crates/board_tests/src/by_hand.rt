@@ -1,5 +1,5 @@
 //! Words put together bit by bit.
-// Tests of another crate have the same: a module of tests is not seen from there, and a public one would be a promise.
+// Tests of another crate have the same: a private module of tests is not seen from there, and a public one would be a promise.
 
 /// The bit of a datum whose count is under threshold.
 pub(crate) const UNDER: u32 = 1 << 13;

@@ -167,6 +167,7 @@ pub(crate) fn draws_into<B: Bank>(
     expected: Result<usize, u8>,
     words: &[u32],
 ) {
+    // Looked at here too: a private module of another crate's tests is not seen from this one.
     block.fill(BLANK);
     assert_eq!(rt; draw_at(bank, 0, block), expected);
     for (i, word) in block.iter().enumerate() {

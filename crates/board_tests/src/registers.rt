@@ -126,6 +126,7 @@ fn offsets_without_a_register(rt: HostRuntime) {
 fn answers<B: Bank>(rt: &impl Abort, bank: &mut B, read: u32, written: u32) {
     let mut refused_reads = 0u32;
     let mut refused_writes = 0u32;
+    // Counted in one loop: each read sees what the writes before it left.
     for offset in 0..=0xFFFF {
         if read_at(bank, 0, offset) == Err(5) {
             refused_reads = refused_reads.wrapping_add(1);

@@ -79,6 +79,7 @@ impl Desk {
 
     /// Puts the rest of the script to the bank.
     fn put_rest<B: Bank + Drop>(&mut self, mut bank: B) -> io::Result<()> {
+        // As above: a loop on input needs an end to be proved to end.
         for _ in 0..u64::MAX {
             let Some(line) = self.next()? else {
                 break;
@@ -103,10 +104,7 @@ impl Desk {
 /// Plays the script on standard input, and keeps the drawn words in the file, if there is one.
 fn play(rt: &HostRuntime, file: Option<File>) -> anyhow::Result<()> {
     let heap = rt.alloc();
-    let words = match file {
-        Some(file) => Some(BufWriter::new(heap, file)?),
-        None => None,
-    };
+    let words = file.map(|file| BufWriter::new(heap, file)).transpose()?;
     let mut desk = Desk {
         script: BufReader::new(heap, rt.stdin())?,
         line: vec![in heap]?,
@@ -127,10 +125,8 @@ fn run(rt: &HostRuntime) -> anyhow::Result<()> {
     if args.next().is_some() {
         return Err(anyhow!("usage: play [FILE] < SCRIPT"));
     }
-    match name {
-        Some(name) => play(rt, Some(fs::create(rt, name)?)),
-        None => play(rt, None),
-    }
+    let file = name.map(|name| fs::create(rt, name)).transpose()?;
+    play(rt, file)
 }
 
 fn main(rt: HostRuntime) -> anyhow::Result<()> {

@@ -1,6 +1,6 @@
 //! Words put together bit by bit.
 //!
-//! The tests of boards have the same: a module of tests is not seen from another crate, and a public one would be a promise.
+//! The tests of boards have the same: a private module of tests is not seen from another crate, and a public one would be a promise.
 
 /// Kind 110, and every other bit 0.
 pub(crate) const FILLER: u32 = 0x0600_0000;

@@ -9,7 +9,7 @@ use std::process::Abort;
 pub(crate) const BLANK: u8 = 0xAA;
 
 /// What was written must stand at the front of the space, and the rest be blank. (The tests of boards and of runs look
-/// at theirs by themselves: a module of tests is not seen from another crate.)
+/// at theirs by themselves: a private module of tests is not seen from another crate.)
 pub(crate) fn holds<T: Copy + PartialEq + Debug>(
     rt: &impl Abort,
     space: &[T],

@@ -47,6 +47,7 @@ impl<F: FrontEnd + Copy> Case<'_, F> {
         let said = Summary(transcript).to_string(heap)?;
         assert_eq!(rt; said.as_str(), self.said);
         assert_eq!(rt; transcript.bytes, self.records.len());
+        // Looked at here too: a private module of another crate's tests is not seen from this one.
         for (i, byte) in space.iter().enumerate() {
             assert_eq!(rt;
                 *byte,

@@ -8,7 +8,7 @@ use crate::mistake::{Flaw, Mistake, Place};
 use std::ops::RangeInclusive;
 
 /// The number that the digits write; one past `u32` stops there. (`from_str_radix` takes a sign, and at a number
-/// past its type it does not look at the bytes that follow.)
+/// past its type it does not look at the bytes that follow; a `try_fold` would say the same.)
 fn numeral(base: u32, digits: &[u8]) -> Option<u32>
     requires base_low { 2 ≤ base }
     requires base_high { base ≤ 16 }
