@@ -5,7 +5,9 @@
 use anyhow::anyhow;
 use bank::Bank;
 use board::board::Board;
+use front_ends::charge::Charge;
 use front_ends::kind::Kind;
+use front_ends::time::Time;
 use script::mistake::Mistake;
 use script_text::reply::{Answer, Drawn, Reply};
 use std::fs::File;
@@ -112,8 +114,11 @@ fn play(rt: &HostRuntime, file: Option<File>) -> anyhow::Result<()> {
         answers: BufWriter::new(heap, rt.stdout())?,
         words,
     };
-    if let Some(kind) = desk.find_board()? {
-        desk.put_rest(Board::new(kind))?;
+    // A board of its own for each kind, so that no gate asks at every reading which kind it is.
+    match desk.find_board()? {
+        Some(Kind::Time) => desk.put_rest(Board::new(Time))?,
+        Some(Kind::Charge) => desk.put_rest(Board::new(Charge))?,
+        None => {}
     }
     desk.close()?;
     Ok(())

@@ -1,5 +1,5 @@
 -- What the lines of a script come to, put to the first station of a bank.
-use Rattle.std.specs.Prelude.{ℕ, min, if◌then◌else◌, List, replicate, take, Some, None, Ok, Err, Option, Result}
+use Rattle.std.specs.Prelude.{ℕ, min, if◌then◌else◌, List, replicate, Some, None, Ok, Err, Option, Result}
 use Rattle.answers.specs.declared.refusal.Refusal.{Refusal}
 use Rattle.answers.specs.declared.refusal.Refusal.TheVariants.{NoStation}
 use Rattle.words.specs.Spaces.{onto}
@@ -32,9 +32,9 @@ opened (Err m) = Err m
 abbrev pub block_into : ℕ → List ℕ → Board → List ℕ
 block_into n d b = if short n then d else onto (first_words b.waiting) d
 
--- the words at the front of the block, as many as were drawn
+-- the block, and how many words at its front were drawn
 abbrev pub with_block : List ℕ → Result ℕ Refusal → Result Drawn Refusal
-with_block d (Ok n) = Ok (record { words = record { items = take n d } })
+with_block d (Ok n) = Ok (record { block = d; count = n })
 with_block d (Err e) = Err e
 
 -- a block of 64 words, all 0 at first

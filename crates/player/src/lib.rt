@@ -1,14 +1,14 @@
 //! The lines of a script, put to one board.
 #![tactic(auto)]
 
-ghost use Rattle.std.specs.Prelude.{◌≡◌, min};
-ghost use Rattle.bank.specs.Banks.{changed};
-ghost use Rattle.bank.specs.Draws.{drawn};
-ghost use Rattle.player.specs.Puts.{opened, draw_into, put_answer, put_after, taken, taken_after};
+ghost use Rattle.std.specs.Prelude.{◌≡◌, ◌≤◌, min, length, Err};
+ghost use Rattle.answers.specs.declared.refusal.Refusal.TheVariants.{NoStation};
+ghost use Rattle.bank.specs.Banks.{asked, changed};
+ghost use Rattle.bank.specs.Draws.{draw_answer, drawn};
+ghost use Rattle.player.specs.Puts.{opened, block_into, draw_into, put_answer, put_after, taken, taken_after};
 ghost use Rattle.script.specs.Lines.{parsed};
 
 use answers::refusal::Refusal;
-use arrayvec::ArrayVec;
 use bank::Bank;
 use front_ends::kind::Kind;
 use script::call::{Call, Line};
@@ -27,16 +27,24 @@ pub fn open(line: &[u8]) -> Result<Option<Kind>, Mistake>
     }
 }
 
-/// Draws an event into a block of so many words, and keeps those that were drawn.
+/// Draws an event into the first words of the block.
+fn draw_into<B: Bank>(bank: &mut B, block: &mut [u32], words: usize) -> Result<usize, Refusal>
+    requires { words ≤ length block.old }
+    ensures says { result ≡ asked (draw_answer words) (Err NoStation) (B.Bank.boards bank.old) 0 }
+    ensures block { block.new ≡ asked (block_into words block.old) block.old (B.Bank.boards bank.old) 0 }
+    ensures leaves { B.Bank.boards bank.new ≡ changed (drawn words) (B.Bank.boards bank.old) 0 }
+{
+    bank.draw(0, &mut block[0..words])
+}
+
+/// Draws an event into a block of so many words.
 fn draw<B: Bank>(bank: &mut B, words: usize) -> Result<Drawn, Refusal>
     ensures says { result ≡ draw_into (min words 64) (B.Bank.boards bank.old) }
     ensures leaves { B.Bank.boards bank.new ≡ changed (drawn (min words 64)) (B.Bank.boards bank.old) 0 }
 {
     let mut block = [0; MOST_WORDS];
-    let count = bank.draw(0, &mut block[..words.min(MOST_WORDS)])?;
-    let mut words = ArrayVec::from_array_in((), block);
-    words.truncate(count);
-    Ok(Drawn { words })
+    let count = draw_into(bank, &mut block, words.min(MOST_WORDS))?;
+    Ok(Drawn { block, count })
 }
 
 /// Puts a call to the first station of a bank.

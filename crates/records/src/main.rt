@@ -1,7 +1,7 @@
 //! `records [time]`: words of a charge board, or of a time board, from standard input; records to standard output.
 #![tactic(auto)]
 
-ghost use Rattle.std.specs.Prelude.{◌≡◌, ◌+◌, ◌*◌, ◌≤◌, length};
+ghost use Rattle.std.specs.Prelude.{◌≡◌, ◌+◌, ◌*◌, ◌≤◌, length, IfOk};
 ghost use Rattle.words.specs.Spaces.{onto};
 ghost use Rattle.transcript.specs.Laws.{Faithful, NeverCramped};
 ghost use Rattle.transcript.specs.Outcomes.{converted, told};
@@ -49,19 +49,32 @@ fn convert_for(kind: Kind, bytes: &[u8], words: &mut [u32], space: &mut [u8]) ->
     convert(&kind, bytes, words, space)
 }
 
-/// Standard input, up to the bytes that a run may have and one more.
-fn read_input(rt: &HostRuntime) -> io::Result<Vec<u8>> {
-    let mut input = Vec::with_capacity(rt.alloc(), MOST_BYTES)?;
-    rt.stdin().take(MOST_BYTES as u64).read_to_end(&mut input)?;
-    Ok(input)
+/// Fills the buffer from standard input, and answers how much of it, up to all.
+// All that is left of the buffer is offered to each read: a message that is longer than what is offered is cut. The
+// library's `read_to_end` offers less, asks for more memory at the limit, and promises no limit here.
+fn read_input(rt: &HostRuntime, buffer: &mut [u8]) -> io::Result<usize>
+    ensures { IfOk result (λ n. n ≤ length buffer.new) }
+{
+    let mut stdin = rt.stdin();
+    let mut filled = 0;
+    // Each turn brings a byte or more, or ends the input.
+    for _ in 0..buffer.len() {
+        let more = stdin.read(&mut buffer[filled..])?;
+        if more == 0 {
+            break;
+        }
+        filled += more;
+    }
+    Ok(filled)
 }
 
 fn run(rt: &HostRuntime, kind: Kind) -> anyhow::Result<()> {
     let heap = rt.alloc();
-    let input = read_input(rt)?;
+    let mut input = vec![in heap; 0u8; MOST_BYTES]?;
+    let length = read_input(rt, &mut input)?;
     let mut words = vec![in heap; 0u32; MOST_WORDS]?;
     let mut space = vec![in heap; 0u8; ROOM]?;
-    let transcript = convert_for(kind, &input, &mut words, &mut space);
+    let transcript = convert_for(kind, &input[..length], &mut words, &mut space);
     let written = transcript.bytes;
     rt.stdout().write_all(&space[..written])?;
     let summary = Summary(transcript);

@@ -2,3 +2,4 @@ pub mod Blocks
 pub mod Counting
 pub mod Plain
 pub mod Scanning
+pub mod Storing

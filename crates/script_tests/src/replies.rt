@@ -1,9 +1,8 @@
 //! What is printed of each answer.
 
 use answers::refusal::Refusal;
-use arrayvec::ArrayVec;
 use script::mistake::Mistake;
-use script_text::reply::{Answer, Drawn, Reply};
+use script_text::reply::{Answer, Drawn, MOST_WORDS, Reply};
 use std::process::Abort;
 use std::test::Fail;
 
@@ -100,24 +99,25 @@ fn waits(rt: HostRuntime) -> Result<(), Fail> {
     )
 }
 
-fn drawn<const N: usize>(rt: &impl Abort, row: [u32; N]) -> Drawn {
-    let mut words = ArrayVec::new();
-    words.try_extend_from_slice(&row).expect(rt, "a block");
-    Drawn { words }
+fn drawn(words: &[u32]) -> Drawn {
+    let count = words.len().min(MOST_WORDS);
+    let mut block = [0; MOST_WORDS];
+    block[0..count].copy_from_slice(&words[0..count]);
+    Drawn { block, count }
 }
 
 #[test]
 fn draws(rt: HostRuntime) -> Result<(), Fail> {
-    let event = drawn(&rt, [0x1A05_0200, 0x1804_0064, 0x1805_0320, 0x1C00_0007]);
+    let event = drawn(&[0x1A05_0200, 0x1804_0064, 0x1805_0320, 0x1C00_0007]);
     check_reply(
         &rt,
         8,
         Answer::Draw(Ok(event)),
         "8: draw: 4 words: 0x1A050200 0x18040064 0x18050320 0x1C000007",
     )?;
-    let none = drawn(&rt, []);
+    let none = drawn(&[]);
     check_reply(&rt, 8, Answer::Draw(Ok(none)), "8: draw: 0 words:")?;
-    let two = drawn(&rt, [0, 0xFEDC_BA98]);
+    let two = drawn(&[0, 0xFEDC_BA98]);
     check_reply(
         &rt,
         8,

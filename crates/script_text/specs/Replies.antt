@@ -1,5 +1,5 @@
 -- The line that tells what a line of a script came to.
-use Rattle.std.specs.Prelude.{ℕ, List, ◌++◌, length, Some, None, Ok, Err, codes, decimal, Option, Result, flat_map}
+use Rattle.std.specs.Prelude.{ℕ, List, ◌++◌, length, take, Some, None, Ok, Err, codes, decimal, Option, Result, flat_map}
 use Rattle.answers.specs.declared.refusal.Refusal.{Refusal}
 use Rattle.answers.specs.Refusals.{refused_text}
 use Rattle.script.specs.declared.mistake.Mistake.{Mistake}
@@ -31,8 +31,9 @@ abbrev pub count_text : Result ℕ Refusal → List ℕ
 count_text (Ok n) = decimal n
 count_text (Err e) = refused_text e
 
+-- the first words of the block, as many as are counted
 abbrev pub drawn_of : Drawn → List ℕ
-drawn_of d = d.words.items
+drawn_of d = take d.count d.block
 
 abbrev pub block_text : Drawn → List ℕ
 block_text d = decimal (length (drawn_of d)) ++ (codes " words:" ++ words_text (drawn_of d))

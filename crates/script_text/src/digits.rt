@@ -30,7 +30,8 @@ impl fmt::Display for TwoDigits {
     }
 }
 
-/// The bytes of a number, the high byte first: 0x and two digits for each. (`{:04X}` has no output in the library.)
+/// The bytes of a number, the high byte first: 0x and two digits for each.
+// By hand; whether the library's `{:02X}` of a byte proves in its place was not tried.
 #[derive(Clone, Copy)]
 pub(crate) struct Hex<const N: usize>([u8; N]);
 

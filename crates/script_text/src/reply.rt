@@ -5,17 +5,18 @@ ghost use Rattle.script_text.specs.Replies.{drawn_of, block_text, answer_text, r
 
 use crate::digits::Hex;
 use answers::refusal::Refusal;
-use arrayvec::ArrayVec;
 use script::mistake::Mistake;
 use std::fmt;
 
 /// The most words that a block has.
 pub const MOST_WORDS: usize = 64;
 
-/// The words that were drawn.
-#[derive(Clone, Drop)]
+/// A block, of which the first words were drawn.
+// A block and a count: a vector of the library's is not `Copy`, and answers are copied.
+#[derive(Clone, Copy)]
 pub struct Drawn {
-    pub words: ArrayVec<u32, MOST_WORDS>,
+    pub block: [u32; MOST_WORDS],
+    pub count: usize,
 }
 
 impl Drawn {
@@ -23,7 +24,7 @@ impl Drawn {
     pub fn as_slice(&self) -> &[u32]
         ensures { result.now ≡ drawn_of self.now }
     {
-        self.words.as_slice()
+        &self.block[..self.count.min(MOST_WORDS)]
     }
 }
 
@@ -42,7 +43,7 @@ impl fmt::Display for Drawn {
 }
 
 /// What a board answers to a call.
-#[derive(Clone, Drop)]
+#[derive(Clone, Copy)]
 pub enum Answer {
     /// How many readings the stored event keeps, none if no event was stored.
     Gate(Result<Option<u8>, Refusal>),
@@ -59,7 +60,7 @@ pub enum Answer {
 }
 
 /// What became of a line, by its number.
-#[derive(Clone, Drop)]
+#[derive(Clone, Copy)]
 pub struct Reply {
     pub line: u64,
     pub told: Result<Answer, Mistake>,
@@ -68,15 +69,16 @@ pub struct Reply {
 impl fmt::Display for Answer {
     ghost output = { λ x. Some (answer_text x) };
 
+    // The pieces are handed on one by one: where a full buffer is written out, before or after drawn words, depends on them.
     fn fmt<W: fmt::Write>(&self, f: &mut fmt::Formatter<W>) -> fmt::Result {
         match self {
-            Answer::Gate(Ok(Some(kept))) => write!(f, "gate: stored, {kept} kept"),
-            Answer::Gate(Ok(None)) => f.write_str("gate: not stored, 0 kept"),
+            Answer::Gate(Ok(Some(kept))) => write!(f, "gate: {}, {kept} kept", "stored"),
+            Answer::Gate(Ok(None)) => write!(f, "gate: {}, {} kept", "not stored", "0"),
             Answer::Gate(Err(refusal)) => write!(f, "gate: {refusal}"),
             Answer::Write { offset, result } => {
                 let offset = Hex::<2>::from(*offset);
                 match result {
-                    Ok(()) => write!(f, "write {offset}: done"),
+                    Ok(()) => write!(f, "write {offset}: {}", "done"),
                     Err(refusal) => write!(f, "write {offset}: {refusal}"),
                 }
             }
@@ -102,7 +104,7 @@ impl fmt::Display for Reply {
         let line = self.line;
         match &self.told {
             Ok(answer) => write!(f, "{line}: {answer}"),
-            Err(mistake) => write!(f, "{line}: not understood: {mistake}"),
+            Err(mistake) => write!(f, "{line}: {}{mistake}", "not understood: "),
         }
     }
 }
